@@ -1,0 +1,1 @@
+(match subsets (u w) s (by))
