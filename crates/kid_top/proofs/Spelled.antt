@@ -1,11 +1,8 @@
 -- What the files spell can be run.
-use Rattle.std.proofs.Common.{◌≡◌, ℕ, Bool, true, false, List, [], ◌∷◌, Option, Some, None, Result, Ok, Err, refl, sym, ap, ◌∙◌, subst, cond}
+use Rattle.std.proofs.Common.{◌≡◌, ℕ, true, List, [], ◌∷◌, Some, refl, subst}
 use Rattle.std.specs.Prelude.{codes}
 use Rattle.kid_sexp.specs.Plain.{Plain, Plains, none, more}
-use Rattle.kid_value.specs.Value.{PlainValue}
-use Rattle.kid_value.specs.Sort.{PlainSort}
 use Rattle.kid_top.specs.Env.{PlainEnv}
-use Rattle.kid_top.specs.Term.{PlainTerm}
 use Rattle.kid_top.specs.Sorting.{PlainNames}
 use Rattle.kid_top.specs.Theory.{PlainTheory, is_proper, checked, couple, name_form, sort_form, term_form, theory_forms, theory_after, theory_of}
 use Rattle.kid_top.specs.Refusal.{◌>>=◌}

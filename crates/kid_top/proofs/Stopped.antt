@@ -1,12 +1,10 @@
 -- What a status says of the stop that it is that of.
-use Rattle.std.proofs.Common.{◌≡◌, ◌≢◌, ℕ, List, ◌++◌, Option, Some, None, option_map, Result, Ok, Err, refl, sym, ap, ◌∙◌, subst, inl, inr, ◌⊎◌, ⊎_elim, arith}
-use Rattle.std.specs.Prelude.{⊤}
+use Rattle.std.proofs.Common.{◌≡◌, ◌≢◌, ℕ, List, ◌++◌, Option, Some, None, option_map, refl, sym, ap, ◌∙◌, inl, inr, ◌⊎◌, ⊎_elim, arith}
 use Rattle.kid_outer.specs.Held.{Held}
 use Rattle.kid_top.specs.declared.stop.Stop.{Stop}
 use Rattle.kid_top.specs.declared.stop.Stop.TheVariants.{Memory, Usage, Failed, Unbuilt, Absent}
 use Rattle.kid_top.specs.Stops.{status_of, stop_text, Complains}
-use Rattle.kid_top.specs.Outcome.{outcome}
-use Rattle.kid_top.specs.Ends.{EndsHeld, IsRefusedBy, IsQuiet, PutsText, Says, ending}
+use Rattle.kid_top.specs.Ends.{EndsHeld, IsRefusedBy, IsQuiet, Says, ending}
 
 -- a status of a stop, or want of memory
 abbrev pub Told : Stop → ℕ → Type 0

@@ -1,13 +1,11 @@
 -- The lines that are put are the text of the answers.
-use Rattle.std.proofs.Common.{◌≡◌, ℕ, Bool, true, false, List, [], ◌∷◌, ◌++◌, length, map, refl, sym, ap, ◌∙◌, subst, cond, append_assoc}
-use Rattle.std.specs.Prelude.{ℤ, MatchBool, Result, Ok, Err}
+use Rattle.std.proofs.Common.{◌≡◌, ℕ, Bool, true, false, List, [], ◌∷◌, ◌++◌, length, map, refl, sym, ap, ◌∙◌, cond, append_assoc}
+use Rattle.std.specs.Prelude.{ℤ, MatchBool}
 use Rattle.std.specs.List.{flat_map}
 use Rattle.std.proofs.lemmas.Grind.{flat_map-append}
 use Rattle.std.proofs.lemmas.List.{length-map}
 use Rattle.kid_value.specs.Value as value
 use Rattle.kid_value.specs.Value.{PlainValue, is_true}
-use Rattle.kid_outer.specs.Held.{Held}
-use Rattle.kid_top.specs.declared.stop.Stop.{Stop}
 use Rattle.kid_top.specs.Env.{PlainEnv}
 use Rattle.kid_top.specs.Eval.{eval}
 use Rattle.kid_top.specs.Theory.{PlainTheory}

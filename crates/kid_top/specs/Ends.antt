@@ -1,5 +1,5 @@
 -- How a call ends: its status, what it put on out and on err, and what licenses each.
-use Rattle.std.specs.Prelude.{◌≡◌, ◌≢◌, ℕ, List, [], ◌∷◌, ◌++◌, Option, Some, None, Result, Ok, Err, option_map, ◌⊎◌, ⊤}
+use Rattle.std.specs.Prelude.{◌≡◌, ◌≢◌, ℕ, List, ◌++◌, Option, Some, None, Result, Ok, Err, option_map, ◌⊎◌, ⊤}
 use Rattle.kid_outer.specs.Causes.{Rose}
 use Rattle.kid_outer.specs.Held.{Held}
 use Rattle.kid_outer.specs.Written.{AppendsPrefix}

@@ -1,4 +1,4 @@
-use Rattle.std.proofs.Common.{List, ℕ, sym, subst}
+use Rattle.std.proofs.Common.{List, ℕ, subst}
 use Rattle.kid_outer.specs.Written.{AppendsPrefix}
 use Rattle.kid_top.proofs.Fronts.{front_at}
 use Rattle.kid_top.proofs.put.put_lines.Goals as goal
