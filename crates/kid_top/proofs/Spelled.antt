@@ -2,8 +2,8 @@
 use Rattle.std.proofs.Common.{◌≡◌, ℕ, true, List, [], ◌∷◌, Some, refl, subst}
 use Rattle.std.specs.Prelude.{codes}
 use Rattle.kid_sexp.specs.Plain.{Plain, Plains, none, more}
-use Rattle.kid_top.specs.Env.{PlainEnv}
-use Rattle.kid_top.specs.Sorting.{PlainNames}
+use Rattle.kid_term.specs.Eval.{Env}
+use Rattle.kid_term.specs.Names.{Names}
 use Rattle.kid_top.specs.Theory.{PlainTheory, is_proper, checked, couple, name_form, sort_form, term_form, theory_forms, theory_after, theory_of}
 use Rattle.kid_top.specs.Refusal.{◌>>=◌}
 use Rattle.kid_top.specs.Files.{file_forest, theory_file, values_of, values_file, envs_of, inputs_of, inputs_file}
@@ -14,18 +14,18 @@ proper_of-forms : (a b c d e : Plain) (t : PlainTheory) → theory_forms a b c d
 proper_of-forms a b c d e t is =
     let title = bind_some (name_form (codes "theory") a) (λ _. sort_form (codes "input") b >>= λ input. term_form (codes "require") c >>= λ condition.
     sort_form (codes "output") d >>= λ output. term_form (codes "ensure") e >>= λ relation.
-    checked (record { inputs = input ∷ []; condition = condition; output = output; relation = relation })) t is in
+    checked (record { inputs = input ∷ []; condition = condition; output = output.0; sort = output.1; relation = relation })) t is in
     let input = bind_some (sort_form (codes "input") b) (λ input. term_form (codes "require") c >>= λ condition.
     sort_form (codes "output") d >>= λ output. term_form (codes "ensure") e >>= λ relation.
-    checked (record { inputs = input ∷ []; condition = condition; output = output; relation = relation })) t title.2 in
+    checked (record { inputs = input ∷ []; condition = condition; output = output.0; sort = output.1; relation = relation })) t title.2 in
     let condition = bind_some (term_form (codes "require") c) (λ condition.
     sort_form (codes "output") d >>= λ output. term_form (codes "ensure") e >>= λ relation.
-    checked (record { inputs = input.0 ∷ []; condition = condition; output = output; relation = relation })) t input.2 in
+    checked (record { inputs = input.0 ∷ []; condition = condition; output = output.0; sort = output.1; relation = relation })) t input.2 in
     let output = bind_some (sort_form (codes "output") d) (λ output. term_form (codes "ensure") e >>= λ relation.
-    checked (record { inputs = input.0 ∷ []; condition = condition.0; output = output; relation = relation })) t condition.2 in
+    checked (record { inputs = input.0 ∷ []; condition = condition.0; output = output.0; sort = output.1; relation = relation })) t condition.2 in
     let relation = bind_some (term_form (codes "ensure") e) (λ relation.
-    checked (record { inputs = input.0 ∷ []; condition = condition.0; output = output.0; relation = relation })) t output.2 in
-    let whole : PlainTheory = record { inputs = input.0 ∷ []; condition = condition.0; output = output.0; relation = relation.0 } in
+    checked (record { inputs = input.0 ∷ []; condition = condition.0; output = output.0.0; sort = output.0.1; relation = relation })) t output.2 in
+    let whole : PlainTheory = record { inputs = input.0 ∷ []; condition = condition.0; output = output.0.0; sort = output.0.1; relation = relation.0 } in
     let taken = chosen (is_proper whole) whole t relation.2 in
     subst (λ (u : PlainTheory). is_proper u ≡ true) taken.1 taken.0
 
@@ -43,7 +43,7 @@ proper_of-forest (more a (more b ts)) t is = proper_of-after a b ts t is
 pub proper_of : (bytes : List ℕ) (t : PlainTheory) → theory_file bytes ≡ Some t → is_proper t ≡ true
 proper_of bytes t is = let forest = bind_some (file_forest bytes) theory_of t is in proper_of-forest forest.0 t forest.2
 
-ready_of-inputs : (t : PlainTheory) (ns : PlainNames) (bytes : List ℕ) (xs : List PlainEnv) → is_proper t ≡ true → t.inputs ≡ ns → inputs_of ns bytes ≡ Some xs → AllReady t xs
+ready_of-inputs : (t : PlainTheory) (ns : Names) (bytes : List ℕ) (xs : List Env) → is_proper t ≡ true → t.inputs ≡ ns → inputs_of ns bytes ≡ Some xs → AllReady t xs
 ready_of-inputs t [] bytes xs proper is e = cc
 ready_of-inputs t (n ∷ []) bytes xs proper is e =
     let vs = bind_some (values_file n.1 bytes) (λ vs. Some (envs_of (n ∷ []) vs)) xs e in
@@ -53,5 +53,5 @@ ready_of-inputs t (n ∷ []) bytes xs proper is e =
 ready_of-inputs t (n ∷ m ∷ ns) bytes xs proper is e = cc
 
 -- inputs that a file spells can be run
-pub ready_of : (t : PlainTheory) (bytes : List ℕ) (xs : List PlainEnv) → is_proper t ≡ true → inputs_file t bytes ≡ Some xs → AllReady t xs
+pub ready_of : (t : PlainTheory) (bytes : List ℕ) (xs : List Env) → is_proper t ≡ true → inputs_file t bytes ≡ Some xs → AllReady t xs
 ready_of t bytes xs proper e = ready_of-inputs t t.inputs bytes xs proper refl e

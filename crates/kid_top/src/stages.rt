@@ -1,6 +1,6 @@
-ghost use Rattle.std.specs.Prelude.{◌≡◌, Some, true, IfOk, IsErrOf};
+ghost use Rattle.std.specs.Prelude.{◌≡◌, Some, true, IfOk, IsErrOf, map};
 ghost use Rattle.kid_outer.specs.Causes.{Rose, NeverFall};
-ghost use Rattle.kid_top.specs.Env.{plain_values};
+ghost use Rattle.kid_value.specs.ValueView.{plain};
 ghost use Rattle.kid_top.specs.Theory.{plain_theory, is_proper};
 ghost use Rattle.kid_top.specs.Files.{theory_file, script_file, inputs_file, envs_of};
 ghost use Rattle.kid_top.specs.Outcome.{stage, AllReady, Outcomes, IsTaken, lines_of, after_theory, outcome_of};
@@ -79,8 +79,8 @@ fn values_stage<S: Store>(
     name: &str,
 ) -> Result<Vec<Value>, Stop>
     requires { is_proper (plain_theory theory.now) ≡ true }
-    ensures outcome { Outcomes (S.held store.old) (λ vs. envs_of (plain_theory theory.now).inputs (plain_values vs.items)) result (λ files. stage 3 (inputs_file (plain_theory theory.now)) (files name.now)) }
-    ensures ready { IfOk result (λ vs. AllReady (plain_theory theory.now) (envs_of (plain_theory theory.now).inputs (plain_values vs.items))) }
+    ensures outcome { Outcomes (S.held store.old) (λ vs. envs_of (plain_theory theory.now).inputs (map plain vs.items)) result (λ files. stage 3 (inputs_file (plain_theory theory.now)) (files name.now)) }
+    ensures ready { IfOk result (λ vs. AllReady (plain_theory theory.now) (envs_of (plain_theory theory.now).inputs (map plain vs.items))) }
     ensures held { S.held store.new ≡ S.held store.old }
     ensures failed { IsErrOf result Stop.Failed → Rose (S.faults store.old name.now) (S.faults store.new name.now) }
     ensures later { NeverFall (S.faults store.old) (S.faults store.new) }

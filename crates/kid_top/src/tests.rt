@@ -72,7 +72,7 @@ fn refuses_other_theories(rt: HostRuntime) -> Result<(), Fail> {
         // conditions that are none, an unknown name, an operator that is not built, and a product beyond the limits
         "(theory t) (input n (int 0 9)) (require n) (output z (int 0 9)) (ensure true)",
         "(theory t) (input n (int 0 9)) (require true) (output z (int 0 9)) (ensure (eq z y))",
-        "(theory t) (input n (int 0 9)) (require true) (output z (int 0 9)) (ensure (lt z n))",
+        "(theory t) (input n (int 0 9)) (require true) (output z (int 0 9)) (ensure (card z))",
         "(theory t) (input n (int 0 4611686018427387904)) (require true) (output z (int 0 2)) (ensure (le 0 (mul n z)))",
     ];
     for theory in theories {

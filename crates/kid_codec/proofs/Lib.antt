@@ -1,0 +1,14 @@
+pub mod Each
+pub mod Found
+pub mod Lengths
+pub mod Numbers
+pub mod Printed
+pub mod Puts
+pub mod SortBack
+pub mod SortTold
+pub mod Taken
+pub mod TermBack
+pub mod TermTold
+pub mod ValueBack
+pub mod ValueTold
+pub mod Words

@@ -1,0 +1,235 @@
+-- The tree of a term reads back to it.
+use Rattle.std.proofs.Common.{◌≡◌, ℕ, ℤ, Bool, true, false, List, [], ◌∷◌, length, Option, Some, None, Result, Ok, Err, refl, sym, ap, ◌∙◌, arith, subst}
+use Rattle.std.specs.Prelude.{◌&&◌, ◌==◌, nat_le, not, option_map, if◌then◌else◌, codes}
+use Rattle.std.specs.List.{list_all}
+use Rattle.std.specs.Fmt.{signed_decimal}
+use Rattle.std.specs.Str.{bytes_eq}
+use Rattle.std.proofs.lemmas.Bool.Decides.{nat_tests}
+use Rattle.kid_sexp.specs.Plain.{more, one}
+use Rattle.kid_value.specs.PlainSort.{PlainSort, both, in_limits, is_allowed}
+use Rattle.kid_value.proofs.SortLemmas.{and_parts, and_both}
+use Rattle.kid_term.specs.declared.operator.LogicOp.TheVariants as logic
+use Rattle.kid_term.specs.declared.operator.NumberOp.TheVariants as num
+use Rattle.kid_term.specs.declared.operator.Op.{Op}
+use Rattle.kid_term.specs.declared.operator.Op.TheVariants.{Logic, Number}
+use Rattle.kid_term.specs.declared.operator.Binder.{Binder}
+use Rattle.kid_term.specs.declared.operator.Binder.TheVariants as binder
+use Rattle.kid_term.specs.PlainTerm.{PlainHead, op, call, cast, PlainTerm, var, number, truth, app, bind, PlainTerms, no_term, term, terms, term_row}
+use Rattle.kid_codec.specs.Name.{is_name, is_reserved, starts_with_letter, is_name_byte}
+use Rattle.kid_codec.specs.Number.{number_of}
+use Rattle.kid_codec.specs.Reading.{judged, ◌>>=◌}
+use Rattle.kid_codec.specs.SortSpelling.{sort_spelling, is_spelled_sort, spelled_sort}
+use Rattle.kid_codec.specs.TermSpelling.{term_spelling, term_spellings, is_spelled_head, is_spelled_term, are_spelled_terms, is_allowed_head, casts_are_allowed, all_casts_are_allowed, applied, called, casted, operated, headed_by, term_of_parts, body_of, spelled_name, spelled_term, spelled_terms, spelled_cast, spelled_body, term_reading}
+use Rattle.kid_codec.specs.Word.{word_of, binder_word, op_of, binder_of, argument_count}
+use Rattle.kid_codec.specs.declared.fault.CodecFault.{CodecFault}
+use Rattle.kid_codec.specs.declared.fault.CodecFault.TheVariants as fault
+use Rattle.kid_codec.proofs.Numbers.{number_of-decimal, no_letter}
+use Rattle.kid_codec.proofs.SortBack.{spelled_parts}
+use Rattle.kid_codec.proofs.ValueBack.{number_no_word}
+use Rattle.kid_codec.proofs.Words.{op_of-word, binder_of-word}
+
+op_no_name : (o : Op) → is_name (word_of o) ≡ false
+unfolding is_reserved
+op_no_name (Logic logic.Not) = refl
+op_no_name (Logic logic.And) = refl
+op_no_name (Logic logic.Or) = refl
+op_no_name (Logic logic.Implies) = refl
+op_no_name (Logic logic.If) = refl
+op_no_name (Logic logic.Eq) = refl
+op_no_name (Number num.Le) = refl
+op_no_name (Number num.Lt) = refl
+op_no_name (Number num.Add) = refl
+op_no_name (Number num.Sub) = refl
+op_no_name (Number num.Neg) = refl
+op_no_name (Number num.Mul) = refl
+op_no_name (Number num.Div) = refl
+op_no_name (Number num.Mod) = refl
+op_no_name (Number num.Min) = refl
+op_no_name (Number num.Max) = refl
+
+op_no_cast : (o : Op) → bytes_eq (word_of o) (codes "cast") ≡ false
+op_no_cast (Logic logic.Not) = refl
+op_no_cast (Logic logic.And) = refl
+op_no_cast (Logic logic.Or) = refl
+op_no_cast (Logic logic.Implies) = refl
+op_no_cast (Logic logic.If) = refl
+op_no_cast (Logic logic.Eq) = refl
+op_no_cast (Number num.Le) = refl
+op_no_cast (Number num.Lt) = refl
+op_no_cast (Number num.Add) = refl
+op_no_cast (Number num.Sub) = refl
+op_no_cast (Number num.Neg) = refl
+op_no_cast (Number num.Mul) = refl
+op_no_cast (Number num.Div) = refl
+op_no_cast (Number num.Mod) = refl
+op_no_cast (Number num.Min) = refl
+op_no_cast (Number num.Max) = refl
+
+op_no_binder : (o : Op) → binder_of (word_of o) ≡ None
+unfolding binder_of
+op_no_binder (Logic logic.Not) = refl
+op_no_binder (Logic logic.And) = refl
+op_no_binder (Logic logic.Or) = refl
+op_no_binder (Logic logic.Implies) = refl
+op_no_binder (Logic logic.If) = refl
+op_no_binder (Logic logic.Eq) = refl
+op_no_binder (Number num.Le) = refl
+op_no_binder (Number num.Lt) = refl
+op_no_binder (Number num.Add) = refl
+op_no_binder (Number num.Sub) = refl
+op_no_binder (Number num.Neg) = refl
+op_no_binder (Number num.Mul) = refl
+op_no_binder (Number num.Div) = refl
+op_no_binder (Number num.Mod) = refl
+op_no_binder (Number num.Min) = refl
+op_no_binder (Number num.Max) = refl
+
+binder_no_name : (b : Binder) → is_name (binder_word b) ≡ false
+unfolding is_reserved
+binder_no_name binder.All = refl
+binder_no_name binder.Some = refl
+binder_no_name binder.SetOf = refl
+binder_no_name binder.Image = refl
+binder_no_name binder.SumOf = refl
+
+binder_no_cast : (b : Binder) → bytes_eq (binder_word b) (codes "cast") ≡ false
+binder_no_cast binder.All = refl
+binder_no_cast binder.Some = refl
+binder_no_cast binder.SetOf = refl
+binder_no_cast binder.Image = refl
+binder_no_cast binder.SumOf = refl
+
+cast_no_name : is_name (codes "cast") ≡ false
+unfolding is_reserved
+cast_no_name = refl
+
+true_no_name : is_name (codes "true") ≡ false
+unfolding is_reserved
+true_no_name = refl
+
+false_no_name : is_name (codes "false") ≡ false
+unfolding is_reserved
+false_no_name = refl
+
+not_letter : (n : ℤ) → in_limits n ≡ true → (b : Bool) → starts_with_letter (signed_decimal n) ≡ b → b ≡ false
+not_letter n h true p = absurd (no_letter n h p)
+not_letter n h false p = refl
+
+number_no_name : (n : ℤ) → in_limits n ≡ true → is_name (signed_decimal n) ≡ false
+number_no_name n h =
+    let w = signed_decimal n in
+    ap (λ (b : Bool). b && nat_le (length w) 32 && list_all is_name_byte w && not (is_reserved w)) (not_letter n h (starts_with_letter w) refl)
+
+row_terms : (ts : PlainTerms) → term_row (terms ts) ≡ ts
+row_terms no_term = refl
+row_terms (term t ts) = ap (term t) (row_terms ts)
+
+counted : (m n : ℕ) → (m == n) ≡ true → m ≡ n
+counted m n p = grind (arith, nat_tests)
+
+op_read : (o : Op) (ts : PlainTerms) (cast_term : Option PlainTerm) (body : Option (Binder → PlainTerm)) → (length (terms ts) == argument_count o) ≡ true
+    → term_of_parts (word_of o) (Some (terms ts)) cast_term body ≡ Some (app (op o) ts)
+op_read o ts cast_term body h =
+    let p = op_no_name o in
+    let q = op_no_cast o in
+    let r = op_no_binder o in
+    let s = op_of-word o in
+    (λ i. if p i then Some (called (word_of o) (terms ts)) else (if q i then cast_term else headed_by (r i) (s i) (Some (terms ts)) body))
+    ∙ ap (λ (b : Bool). if b then Some (app (op o) (term_row (terms ts))) else None) h ∙ ap (λ (us : PlainTerms). Some (app (op o) us)) (row_terms ts)
+
+call_read : (f : List ℕ) (ts : PlainTerms) (cast_term : Option PlainTerm) (body : Option (Binder → PlainTerm)) → is_name f ≡ true
+    → term_of_parts f (Some (terms ts)) cast_term body ≡ Some (app (call f) ts)
+call_read f ts cast_term body h =
+    ap (λ (b : Bool). if b then Some (called f (terms ts)) else (if bytes_eq f (codes "cast") then cast_term else headed_by (binder_of f) (op_of f) (Some (terms ts)) body)) h
+    ∙ ap (λ (us : PlainTerms). Some (app (call f) us)) (row_terms ts)
+
+cast_read : (ts : Option (List PlainTerm)) (t : PlainTerm) (body : Option (Binder → PlainTerm)) → term_of_parts (codes "cast") ts (Some t) body ≡ Some t
+cast_read ts t body =
+    ap (λ (b : Bool). if b then option_map (called (codes "cast")) ts else Some t) cast_no_name
+
+binder_read : (b : Binder) (ts : Option (List PlainTerm)) (cast_term : Option PlainTerm) (body : Option (Binder → PlainTerm))
+    → term_of_parts (binder_word b) ts cast_term body ≡ option_map (λ f. f b) body
+binder_read b ts cast_term body =
+    let p = binder_no_name b in
+    let q = binder_no_cast b in
+    let r = binder_of-word b in
+    λ i. if p i then option_map (called (binder_word b)) ts else (if q i then cast_term else headed_by (r i) (op_of (binder_word b)) ts body)
+
+named : (x : List ℕ) → is_name x ≡ true → (if is_name x then Some x else None) ≡ Some x
+named x h = ap (λ (b : Bool). if b then Some x else None) h
+
+mutual
+  pub term_back : (t : PlainTerm) → is_spelled_term t ≡ true → spelled_term (term_spelling t) ≡ Some t
+  term_back (var x) h =
+      ap (λ (b : Bool). if b then Some (var x) else (if bytes_eq x (codes "true") then Some (truth true) else (if bytes_eq x (codes "false") then Some (truth false) else option_map number (number_of x)))) h
+  term_back (number n) h =
+      let o = number_no_name n h in
+      let p = number_no_word n (codes "true") h refl in
+      let q = number_no_word n (codes "false") h refl in
+      let r = number_of-decimal n h in
+      λ i. if o i then Some (var (signed_decimal n)) else (if p i then Some (truth true) else (if q i then Some (truth false) else option_map number (r i)))
+  term_back (truth true) h = ap (λ (b : Bool). if b then Some (var (codes "true")) else Some (truth true)) true_no_name
+  term_back (truth false) h = ap (λ (b : Bool). if b then Some (var (codes "false")) else Some (truth false)) false_no_name
+  term_back (app (op o) ts) h =
+      let r = and_parts (length (terms ts) == argument_count o) (are_spelled_terms ts) h in
+      ap (λ (us : Option (List PlainTerm)). term_of_parts (word_of o) us (spelled_cast (term_spellings ts)) (spelled_body (term_spellings ts))) (terms_back ts r.1)
+      ∙ op_read o ts (spelled_cast (term_spellings ts)) (spelled_body (term_spellings ts)) r.0
+  term_back (app (call f) ts) h =
+      let r = and_parts (is_name f) (are_spelled_terms ts) h in
+      ap (λ (us : Option (List PlainTerm)). term_of_parts f us (spelled_cast (term_spellings ts)) (spelled_body (term_spellings ts))) (terms_back ts r.1)
+      ∙ call_read f ts (spelled_cast (term_spellings ts)) (spelled_body (term_spellings ts)) r.0
+  term_back (app (cast s) no_term) h = cc
+  term_back (app (cast s) (term t no_term)) h =
+      let r = and_parts (is_spelled_sort s) (is_spelled_term t && true) h in
+      let q = and_parts (is_spelled_term t) true r.1 in
+      let p = (spelled_parts s r.0).1 in
+      let u = term_back t q.0 in
+      ap (λ (o : Option PlainTerm). term_of_parts (codes "cast") (spelled_terms (more (sort_spelling s) (one (term_spelling t)))) o (spelled_body (more (sort_spelling s) (one (term_spelling t))))) (λ i. both casted (p i) (u i))
+      ∙ cast_read (spelled_terms (more (sort_spelling s) (one (term_spelling t)))) (app (cast s) (term t no_term)) (spelled_body (more (sort_spelling s) (one (term_spelling t))))
+  term_back (app (cast s) (term t (term u ts))) h =
+      let n = length (terms (term t (term u ts))) in
+      let r = and_parts (n == 1 && is_spelled_sort s) (are_spelled_terms (term t (term u ts))) h in
+      let q = and_parts (n == 1) (is_spelled_sort s) r.0 in
+      absurd (omega (arith, counted n 1 q.0))
+  term_back (bind b x s t) h =
+      let r = and_parts (is_name x && is_spelled_term s) (is_spelled_term t) h in
+      let q = and_parts (is_name x) (is_spelled_term s) r.0 in
+      let n = named x q.0 in
+      let p = term_back s q.1 in
+      let u = term_back t r.1 in
+      binder_read b _ _ _ ∙ (λ i. option_map (λ f. f b) (body_of (n i) (p i) (u i)))
+
+  pub terms_back : (ts : PlainTerms) → are_spelled_terms ts ≡ true → spelled_terms (term_spellings ts) ≡ Some (terms ts)
+  terms_back no_term h = refl
+  terms_back (term t ts) h =
+      let r = and_parts (is_spelled_term t) (are_spelled_terms ts) h in
+      let p = term_back t r.0 in
+      let q = terms_back ts r.1 in
+      λ i. p i >>= λ x. option_map (λ xs. x ∷ xs) (q i)
+
+allowed_head : (h : PlainHead) (n : ℕ) → is_spelled_head h n ≡ true → is_allowed_head h ≡ true
+allowed_head (op o) n p = refl
+allowed_head (call f) n p = refl
+allowed_head (cast s) n p = (spelled_parts s (and_parts (n == 1) (is_spelled_sort s) p).1).0
+
+mutual
+  allowed_back : (t : PlainTerm) → is_spelled_term t ≡ true → casts_are_allowed t ≡ true
+  allowed_back (var x) h = refl
+  allowed_back (number n) h = refl
+  allowed_back (truth b) h = refl
+  allowed_back (app g ts) h =
+      let r = and_parts (is_spelled_head g (length (terms ts))) (are_spelled_terms ts) h in
+      and_both (is_allowed_head g) (all_casts_are_allowed ts) (allowed_head g (length (terms ts)) r.0) (all_allowed_back ts r.1)
+  allowed_back (bind b x s t) h =
+      let r = and_parts (is_name x && is_spelled_term s) (is_spelled_term t) h in
+      let q = and_parts (is_name x) (is_spelled_term s) r.0 in
+      and_both (casts_are_allowed s) (casts_are_allowed t) (allowed_back s q.1) (allowed_back t r.1)
+
+  all_allowed_back : (ts : PlainTerms) → are_spelled_terms ts ≡ true → all_casts_are_allowed ts ≡ true
+  all_allowed_back no_term h = refl
+  all_allowed_back (term t ts) h =
+      let r = and_parts (is_spelled_term t) (are_spelled_terms ts) h in
+      and_both (casts_are_allowed t) (all_casts_are_allowed ts) (allowed_back t r.0) (all_allowed_back ts r.1)
+
+pub term_reads_back : (t : PlainTerm) → is_spelled_term t ≡ true → term_reading (term_spelling t) ≡ Ok t
+term_reads_back t h = ap (judged casts_are_allowed) (term_back t h) ∙ ap (λ (b : Bool). if b then Ok t else Err fault.Sort) (allowed_back t h)

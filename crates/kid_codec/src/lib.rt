@@ -1,0 +1,23 @@
+//! Sorts, values and terms as trees, and back.
+#![tactic(auto)]
+
+mod fault;
+mod name;
+mod number;
+mod parts;
+mod print;
+mod sort;
+mod term;
+#[cfg(test)]
+mod tests;
+mod value;
+mod word;
+
+pub use fault::CodecFault;
+pub use name::is_name;
+pub use number::number_of;
+pub use print::{sort_tree, term_tree, value_tree};
+pub use sort::sort_from;
+pub use term::term_of;
+pub use value::value_of;
+pub use word::{argument_count, binder_of, binder_word, op_of, word_of};

@@ -1,0 +1,5 @@
+pub mod BindingLemmas
+pub mod EnvLemmas
+pub mod LogicLemmas
+pub mod OpeningLemmas
+pub mod SmallLemmas

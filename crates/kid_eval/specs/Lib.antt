@@ -1,0 +1,7 @@
+pub mod Binding
+pub mod EnvCode
+pub mod EnvView
+pub mod Inside
+pub mod Opening
+pub mod ScopeView
+pub mod Truth

@@ -1,0 +1,5 @@
+pub mod Answers
+pub mod Binders
+pub mod Definition
+pub mod PlainSignature
+pub mod ScopeView

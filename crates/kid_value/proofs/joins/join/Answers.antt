@@ -1,0 +1,6 @@
+use Rattle.kid_value.specs.SortView.{plain_sort}
+use Rattle.kid_value.proofs.JoinLemmas.{joined_ok}
+use Rattle.kid_value.proofs.joins.join.Goals as goal
+
+pub returns-clause-least : goal.returns-clause-least
+returns-clause-least c = joined_ok (plain_sort c.args.a.now) (plain_sort c.args.b.now) c.joined.result c.joined.ensures
