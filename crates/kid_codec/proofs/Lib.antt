@@ -12,3 +12,4 @@ pub mod TermTold
 pub mod ValueBack
 pub mod ValueTold
 pub mod Words
+pub mod Shapes

@@ -5,3 +5,4 @@ pub mod Reading
 pub mod SortSpelling
 pub mod ValueSpelling
 pub mod TermSpelling
+pub mod Shape

@@ -6,6 +6,7 @@ mod name;
 mod number;
 mod parts;
 mod print;
+pub mod shape;
 mod sort;
 mod term;
 #[cfg(test)]
@@ -17,7 +18,7 @@ pub use fault::CodecFault;
 pub use name::is_name;
 pub use number::number_of;
 pub use print::{sort_tree, term_tree, value_tree};
-pub use sort::sort_from;
-pub use term::term_of;
+pub use sort::{sort_from, spelled_sort};
+pub use term::{spelled_name, spelled_term, term_of};
 pub use value::value_of;
 pub use word::{argument_count, binder_of, binder_word, op_of, word_of};

@@ -43,7 +43,11 @@ fn spelled_bound(tree: &Tree) -> Option<u32>
     }
 }
 
-/// The sort that a tree has the shape of, allowed or not.
+/// The sort that a tree has the shape of, allowed or not. A bound of a sequence sort that is no such number stands as 65537.
+///
+/// # Errors
+///
+/// `Form`: the tree has no such shape. `Memory`: memory is wanting.
 #[cycle(spelled_sort)]
 pub fn spelled_sort(alloc: Global, tree: &Tree) -> Result<Sort, CodecFault>
     ensures { Finds plain_sort result (spelled_sort (plain tree.now)) }

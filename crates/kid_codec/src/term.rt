@@ -36,7 +36,12 @@ fn atom_term(alloc: Global, word: &Text) -> Result<Term, CodecFault>
     }
 }
 
-fn spelled_name(alloc: Global, tree: &Tree) -> Result<Text, CodecFault>
+/// The name that a tree is.
+///
+/// # Errors
+///
+/// `Form`: the tree is no name. `Memory`: memory is wanting.
+pub fn spelled_name(alloc: Global, tree: &Tree) -> Result<Text, CodecFault>
     ensures { Finds (λ x. x) result (spelled_name (plain tree.now)) }
 {
     match tree {
@@ -59,9 +64,14 @@ fn applied(op: Op, terms: Terms) -> Result<Term, CodecFault>
     }
 }
 
-/// The term that a tree has the shape of, where the sorts in it may be allowed or not.
+/// The term that a tree has the shape of, where the sorts in it may be allowed or not. A bound of a sequence sort that is no
+/// such number stands as 65537.
+///
+/// # Errors
+///
+/// `Form`: the tree has no such shape. `Memory`: memory is wanting.
 #[cycle(spelled_term)]
-fn spelled_term(alloc: Global, tree: &Tree) -> Result<Term, CodecFault>
+pub fn spelled_term(alloc: Global, tree: &Tree) -> Result<Term, CodecFault>
     ensures { Finds plain_term result (spelled_term (plain tree.now)) }
 {
     match tree {

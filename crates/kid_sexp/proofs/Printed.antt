@@ -4,8 +4,8 @@ use Rattle.std.specs.Prelude.{IsTrue, IfOk, Result, Ok, Err}
 use Rattle.std.specs.List.{list_all}
 use Rattle.std.proofs.lemmas.Bool.{and_parts, and_from, or_right}
 use Rattle.std.proofs.lemmas.List.Folds.{list_all-append}
-use Rattle.kid_sexp.specs.Token.{Token, opens, closes, word, Mark, opens_at, closes_at, word_of, token}
-use Rattle.kid_sexp.specs.Plain.{Plain, Plains, atom, list, none, more, flat, flat_tree, flat_before, depth}
+use Rattle.kid_sexp.specs.Token.{Token, opens, closes, word, Mark, opens_at, closes_at, word_of, token, tokens_code}
+use Rattle.kid_sexp.specs.Plain.{Plain, Plains, atom, list, none, more, flat, flat_tree, flat_before, depth, plains_code}
 use Rattle.kid_sexp.specs.Alphabet.{is_blank, is_visible, in_alphabet, in_word, IsClean}
 use Rattle.kid_sexp.specs.Tokens.{Tokens, done, separator, remark, opening, closing, run, ends_or}
 use Rattle.kid_sexp.specs.Spells.{Spells}
@@ -14,6 +14,7 @@ use Rattle.kid_sexp.specs.declared.fault.ReadFault.{ReadFault}
 use Rattle.kid_sexp.specs.Reading.{reading}
 use Rattle.kid_sexp.specs.Gives.{Gives}
 use Rattle.kid_sexp.proofs.Alphabets.{word_byte}
+use Rattle.kid_sexp.proofs.Scanned.{tokens_same}
 use Rattle.kid_sexp.proofs.Spelled.{reading-spelled}
 
 -- wherever they stand, these bytes have these tokens
@@ -117,6 +118,14 @@ pub text-spells : (ts : Plains) → is_printable ts ≡ true → depth ts ≤ 25
 text-spells ts p shallow =
     let m = Reads-text ts p 0 in
     record { clean = clean_text ts p; marks = m.0; tokens = m.1; same = m.2; shallow = shallow }
+
+-- what is read of the text of a forest is that forest, also where that could be too deep
+pub text-only : (ts us : Plains) → is_printable ts ≡ true → reading (text ts) ≡ Ok us → us ≡ ts
+text-only ts us p e =
+    let m = Reads-text ts p 0 in
+    let s = reading-spelled (text ts) us e in
+    let same : flat us ≡ flat ts = sym s.same ∙ ap (map token) (tokens_same s.tokens m.1) ∙ m.2 in
+    plains_code.inj us ts (ap tokens_code.code same)
 
 -- ---- what is spelled is printable
 

@@ -72,6 +72,13 @@ impl Signature {
         self.definitions.items()
     }
 
+    /// The definitions as a whole.
+    pub fn defs(&self) -> &Defs
+        ensures { result.now ≡ self.now.definitions }
+    {
+        &self.definitions
+    }
+
     /// The inputs with their sorts, in their order.
     pub fn inputs(&self) -> &[(Text, Sort)]
         ensures { map plain_name result.now ≡ self.now.inputs }

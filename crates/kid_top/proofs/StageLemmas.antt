@@ -1,45 +1,71 @@
 -- One stage after another.
-use Rattle.std.proofs.Common.{◌≡◌, ℕ, List, Option, Some, None, Result, Ok, Err, IfOk, refl, sym, ap, ◌∙◌, subst}
+use Rattle.std.proofs.Common.{◌≡◌, ◌≤◌, ℕ, true, List, Option, Some, None, option_map, Result, Ok, Err, IfOk, sym, ap, ◌∙◌, subst, arith, inl, inr, ⊎_elim}
+use Rattle.std.specs.Global.{Vec}
+use Rattle.kid_outer.specs.Causes.{Rose, NeverFall}
 use Rattle.kid_outer.specs.Held.{Held}
+use Rattle.kid_prog.specs.ProgramView.{plain_program}
+use Rattle.kid_prog.specs.declared.program.Program.{Program}
 use Rattle.kid_top.specs.declared.refusal.Refusal.{Refusal}
-use Rattle.kid_top.specs.declared.refusal.Refusal.TheVariants as refusal
 use Rattle.kid_top.specs.declared.stop.Stop.{Stop}
-use Rattle.kid_top.specs.declared.stop.Stop.TheVariants.{Memory, Usage, Failed, Unbuilt, Absent}
 use Rattle.kid_top.specs.declared.theory.Theory.{Theory}
+use Rattle.kid_top.specs.Refusal.{Gives}
 use Rattle.kid_top.specs.Theory.{PlainTheory, plain_theory}
-use Rattle.kid_top.specs.Files.{theory_file}
-use Rattle.kid_top.specs.Outcome.{Problem, Command, command_of, outcome_of, outcome, stage, after_theory, problem, lines_of, Refuses, Comes, Outcomes, IsTaken, ◌>>=◌}
-use Rattle.kid_top.specs.Ends.{IsRefusedBy}
+use Rattle.kid_top.specs.Spelled.{is_spelled_theory}
+use Rattle.kid_top.specs.Emitted.{program_for}
+use Rattle.kid_top.specs.Files.{theory_file, script_file}
+use Rattle.kid_top.specs.Outcome.{Comes, Outcomes, load_stage, read_or, read_file, stage, emitted_or, script_program, ◌>>=◌}
+use Rattle.kid_top.specs.Risen.{Counts, TheoryRose, SolveRose, DeriveRose}
+use Rattle.kid_top.proofs.Spellings.{theory_spelled}
 
--- what was taken keeps what held of it
-pub taken_ok : {T : Type 0} (k : ℕ) (read : Result T Refusal) (r : Result T Stop) (P : T → Type 0) → IsTaken k read r → IfOk read P → IfOk r P
-taken_ok {T} k (Ok x) r P e h = subst (λ (z : Result T Stop). IfOk z P) (sym e) h
-taken_ok {T} k (Err refusal.Unbuilt) r P e h = subst (λ (z : Result T Stop). IfOk z P) (sym e) tt
-taken_ok {T} k (Err refusal.Memory) r P e h = subst (λ (z : Result T Stop). IfOk z P) (sym e) tt
+-- a theory that was read has a spelling
+pub read_theories : (r : Result Theory Refusal) (bytes : List ℕ) → Gives plain_theory r (theory_file bytes) → IfOk r (λ t. is_spelled_theory (plain_theory t) ≡ true)
+read_theories (Ok t) bytes e = (theory_spelled bytes (plain_theory t) e).1
+read_theories (Err why) bytes e = tt
 
--- the theory was read, and then this came of the other files
-pub after_first : {X : Type 0} (h : Option Held) (view : X → List (List ℕ)) (theory script inputs : List ℕ) (t : Theory) (r : Result X Stop)
-    → Outcomes {X = Theory} {Y = PlainTheory} h plain_theory (Ok t) (λ files. stage 1 theory_file (files theory))
-    → Outcomes h view r (λ files. lines_of (after_theory (plain_theory t) files script inputs))
-    → Outcomes h view r (λ files. lines_of (problem files theory script inputs))
-after_first None view theory script inputs t r first rest = tt
-after_first (Some files) view theory script inputs t r first rest =
-    subst (λ (o : Result PlainTheory Stop). Comes view r (lines_of (o >>= λ u. after_theory u files script inputs))) (sym first) rest
+-- the script was read, and then this came of the theory
+pub after_script : (h : Option Held) (t : PlainTheory) (script : List ℕ) (u : Unit {0}) (r : Result Program Stop)
+    → Outcomes {X = Unit {0}} {Y = Unit {0}} h (λ u. u) (Ok u) (λ files. stage 2 script_file (files script))
+    → Comes plain_program r (emitted_or (program_for t)) → Outcomes h plain_program r (λ files. script_program t (files script))
+after_script None t script u r first rest = tt
+after_script (Some files) t script u r first rest =
+    subst (λ (o : Result (Unit {0}) Stop). Comes plain_program r (o >>= λ v. emitted_or (program_for t))) (sym first) rest
 
-lines-refused : (o : Result Problem Stop) (e : Stop) → lines_of o ≡ Err e → o ≡ Err e
-lines-refused (Ok p) e q = cc
-lines-refused (Err f) e q = let same : f ≡ e = cc in ap (λ g. Err g) same
+-- a file was read, and this is what it spells
+pub stage_taken : {X Y : Type 0} (h : Option Held) (k : ℕ) (read : List ℕ → Option Y) (view : X → Y) (name text : List ℕ) (bytes : Vec ℕ) (o : Option (Vec ℕ)) (x : X)
+    → Outcomes {X = Option (Vec ℕ)} {Y = Option (List ℕ)} h (option_map (λ b. b.items)) (Ok o) (λ files. load_stage k (files name))
+    → o ≡ Some bytes → text ≡ bytes.items → read text ≡ Some (view x) → Outcomes h view (Ok x) (λ files. stage k read (files name))
+stage_taken None k read view name text bytes o x first is same spelled = tt
+stage_taken {X} {Y} (Some files) k read view name text bytes o x first is same spelled =
+    ap (λ (r : Result (Option (List ℕ)) Stop). r >>= read_file k read) first
+    ∙ ap (λ (p : Option (Vec ℕ)). read_file k read (option_map (λ b. b.items) p)) is
+    ∙ ap (λ (t : List ℕ). read_or k (read t)) (sym same) ∙ ap (λ (y : Option Y). read_or k y) spelled
 
-refuses-lines : (e : Stop) (o : Result Problem Stop) → Refuses e (lines_of o) → Refuses e o
-refuses-lines Memory o h = tt
-refuses-lines Failed o h = tt
-refuses-lines Usage o h = lines-refused o Usage h
-refuses-lines (Unbuilt k) o h = lines-refused o (Unbuilt k) h
-refuses-lines (Absent k) o h = lines-refused o (Absent k) h
+-- one stage gave this, and then that came of the next
+pub after_stage : {X Y Z W : Type 0} (h : Option Held) (view : X → Y) (x : X) (later : Z → W) (r : Result Z Stop) (first : Held → Result Y Stop) (rest : Held → Y → Result W Stop)
+    → Outcomes h view (Ok x) first → Outcomes h later r (λ files. rest files (view x)) → Outcomes h later r (λ files. first files >>= rest files)
+after_stage None view x later r first rest e comes = tt
+after_stage {Y = Y} (Some files) view x later r first rest e comes = subst (λ (o : Result Y Stop). Comes later r (o >>= rest files)) (sym e) comes
 
--- a refusal of the lines is one of the call
-pub refused_lines : {X : Type 0} (words : List (List ℕ)) (h : Option Held) (c : Command) (view : X → List (List ℕ)) (e : Stop)
-    → Some c ≡ command_of words → Outcomes {X = X} {Y = List (List ℕ)} h view (Err e) (λ files. lines_of (outcome_of (Some c) files)) → IsRefusedBy e words h
-refused_lines words None c view e fits comes = tt
-refused_lines words (Some files) c view e fits comes =
-    subst (λ (k : Option Command). Refuses e (outcome_of k files)) fits (refuses-lines e (outcome_of (Some c) files) comes)
+-- ---- counts that rose after others
+
+rose_later : (a b c : ℕ) → a ≤ b → Rose b c → Rose a c
+rose_later a b c le rose = omega (arith, le, rose)
+
+pub derive_rose : (h : Option Held) (before mid now : Counts) (theory script : List ℕ) (t : Theory) → NeverFall before mid
+    → Outcomes {X = Theory} {Y = PlainTheory} h plain_theory (Ok t) (λ files. stage 1 theory_file (files theory)) → Rose (mid script) (now script)
+    → DeriveRose h before now theory script
+derive_rose None before mid now theory script t never read rose = inr (rose_later (before script) (mid script) (now script) (never script) rose)
+derive_rose (Some files) before mid now theory script t never read rose =
+    inr (plain_theory t, read, rose_later (before script) (mid script) (now script) (never script) rose)
+
+pub solve_rose : (h : Option Held) (before mid now : Counts) (theory script inputs : List ℕ) (t : Theory) → NeverFall before mid
+    → Outcomes {X = Theory} {Y = PlainTheory} h plain_theory (Ok t) (λ files. stage 1 theory_file (files theory)) → TheoryRose h mid now (plain_theory t) script inputs
+    → SolveRose h before now theory script inputs
+solve_rose None before mid now theory script inputs t never read rose =
+    inr (⊎_elim (λ r. inl (rose_later (before script) (mid script) (now script) (never script) r)) (λ r. inr (rose_later (before inputs) (mid inputs) (now inputs) (never inputs) r)) rose)
+solve_rose (Some files) before mid now theory script inputs t never read rose =
+    inr (
+      plain_theory t,
+      read,
+      ⊎_elim (λ r. inl (rose_later (before script) (mid script) (now script) (never script) r)) (λ r. inr (r.0, r.1, rose_later (before inputs) (mid inputs) (now inputs) (never inputs) r.2)) rose,
+    )

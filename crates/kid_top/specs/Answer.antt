@@ -6,8 +6,11 @@ use Rattle.kid_value.specs.ValueSet.{is_member, Ascends}
 use Rattle.kid_value.specs.Rows.{truth_of}
 use Rattle.kid_term.specs.PlainTerm.{PlainTerm}
 use Rattle.kid_term.specs.Eval.{Env, eval}
-use Rattle.kid_term.specs.Small.{StaysSmall}
 use Rattle.kid_top.specs.Theory.{PlainTheory}
+
+-- whether an input meets the input condition
+abbrev pub is_inside : PlainTheory → Env → Bool
+is_inside t x = truth_of (eval [] x t.condition)
 
 -- whether the relation is true at the input and this value of the output
 abbrev pub relates : PlainTheory → Env → PlainValue → Bool
@@ -16,9 +19,6 @@ relates t x v = truth_of (eval [] ((t.output, v) ∷ x) t.relation)
 -- the same at an integer, by the output's name and the relation's term
 abbrev pub relates_at : Env → List ℕ → PlainTerm → ℤ → Bool
 relates_at x name term z = truth_of (eval [] ((name, int z) ∷ x) term)
-
-abbrev pub StaysSmallAt : Env → List ℕ → PlainTerm → ℤ → Type 0
-StaysSmallAt x name term z = StaysSmall [] ((name, int z) ∷ x) term
 
 -- The list ascends strictly, and a value is in it exactly where it has the output's sort and the relation is true.
 pub record Answer (t : PlainTheory) (x : Env) (answers : List PlainValue) : Type 0 where

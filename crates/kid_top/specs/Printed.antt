@@ -1,34 +1,43 @@
--- What is printed for an input, by its answers.
-use Rattle.std.specs.Prelude.{◌≡◌, ℕ, List, [], ◌∷◌, ◌++◌, length, MatchBool, Result, Ok, Err}
+-- What is printed for an input of a theory, by its answers.
+use Rattle.std.specs.Prelude.{◌≡◌, ℕ, true, List, [], ◌∷◌, ◌++◌, length, MatchBool}
 use Rattle.std.specs.List.{flat_map}
-use Rattle.kid_sexp.specs.Printing.{tree_text}
+use Rattle.kid_value.specs.PlainSort.{PlainSort, ints}
 use Rattle.kid_value.specs.PlainValue.{PlainValue}
 use Rattle.kid_term.specs.Eval.{Env}
-use Rattle.kid_codec.specs.ValueSpelling.{value_spelling}
+use Rattle.kid_prog.specs.PlainProgram.{PlainProgram}
+use Rattle.kid_run.specs.Lines.{value_line, closing_line, outside_line}
+use Rattle.kid_run.specs.Running.{run_of}
 use Rattle.kid_top.specs.Theory.{PlainTheory}
-use Rattle.kid_top.specs.Answer.{Answer}
-use Rattle.kid_top.specs.Run.{closing_line, outside_line, splits_in, is_inside}
-use Rattle.kid_top.specs.declared.stop.Stop.{Stop}
+use Rattle.kid_top.specs.Answer.{Answer, is_inside}
+use Rattle.kid_top.specs.Search.{range_count}
 
-abbrev pub value_line : PlainValue → List ℕ
-value_line v = tree_text (value_spelling v) ++ 10 ∷ []
+-- how many descriptors the search of a range visits
+abbrev pub splits_in : PlainSort → ℕ
+splits_in (ints lo hi) = range_count (lo, hi)
+splits_in s = 0
 
--- A line for each answer, and then how many there are and how many descriptors the search visits.
-pub record Answers (t : PlainTheory) (x : Env) (text : List ℕ) : Type 0 where
+-- A line for each answer, and then how many there are and how many calls the program began, which are the descriptors that the search visits.
+pub record Answers (t : PlainTheory) (p : PlainProgram) (fuel : ℕ) (x : Env) (text : List ℕ) : Type 0 where
   pub answers : List PlainValue
   pub exact : Answer t x answers
-  pub lines : text ≡ flat_map value_line answers ++ closing_line (length answers) (splits_in t.sort)
+  pub lines : text ≡ flat_map value_line answers ++ closing_line (length answers) (run_of p x fuel).calls
+  pub counted : (run_of p x fuel).calls ≡ splits_in t.sort
 
 -- the text for one input: its answers where the input condition is true, and one line where it is not
-abbrev pub InputText : PlainTheory → Env → List ℕ → Type 0
-InputText t x text = MatchBool (is_inside t x) (Answers t x text) (text ≡ outside_line)
+abbrev pub InputText : PlainTheory → PlainProgram → ℕ → Env → List ℕ → Type 0
+InputText t p fuel x text = MatchBool (is_inside t x) (Answers t p fuel x text) (text ≡ outside_line)
 
 -- the text for all inputs: that of the first, and then that of the others
-abbrev pub Texts : PlainTheory → List Env → List ℕ → Type 0
-Texts t [] text = text ≡ []
-Texts t (x ∷ xs) text = (here : List ℕ) × (rest : List ℕ) × (text ≡ here ++ rest) × InputText t x here × Texts t xs rest
+abbrev pub Texts : PlainTheory → PlainProgram → ℕ → List Env → List ℕ → Type 0
+Texts t p fuel [] text = text ≡ []
+Texts t p fuel (x ∷ xs) text = (here : List ℕ) × (rest : List ℕ) × (text ≡ here ++ rest) × InputText t p fuel x here × Texts t p fuel xs rest
 
--- the text that a call is to put on out: that of its inputs, and none where the call is refused
-abbrev pub IsTextOf : Result (PlainTheory × List Env) Stop → List ℕ → Type 0
-IsTextOf (Ok p) text = Texts p.0 p.1 text
-IsTextOf (Err stop) text = text ≡ []
+-- with some fuel the program finds just the answers at the input, and comes to its end
+pub record FindsAnswers (t : PlainTheory) (p : PlainProgram) (x : Env) : Type 0 where
+  pub fuel : ℕ
+  pub answer : Answer t x (run_of p x fuel).values
+  pub whole : (run_of p x fuel).whole ≡ true
+
+-- the program solves the theory
+abbrev pub Implements : PlainTheory → PlainProgram → Type 0
+Implements t p = (x : Env) → FindsAnswers t p x

@@ -1,6 +1,16 @@
 -- A command of the program, as contracts see it.
-use Rattle.kid_top.specs.declared.words.Solve.{Solve}
-use Rattle.kid_top.specs.Outcome.{Command, solve}
+use Rattle.std.specs.Prelude.{◌≢◌, ◌<◌, ◌^◌}
+use Rattle.kid_top.specs.declared.words.Command.{Command as Given}
+use Rattle.kid_top.specs.declared.words.Command.TheVariants.{Derive, Run, Solve}
+use Rattle.kid_top.specs.Command.{Command, derive, run, solve}
 
-abbrev pub plain_command : Solve → Command
-plain_command files = solve files.theory.now files.script.now files.inputs.now
+abbrev pub plain_command : Given → Command
+plain_command (Derive theory script derivation program) = derive theory.now script.now derivation.now program.now
+plain_command (Run program inputs fuel) = run program.now inputs.now fuel
+plain_command (Solve theory script inputs fuel) = solve theory.now script.now inputs.now fuel
+
+-- the fuel fits the machine with room to spare, and the names of two files that are saved differ
+abbrev pub IsUsable : Command → Type 0
+IsUsable (derive theory script derivation program) = derivation ≢ program
+IsUsable (run program inputs fuel) = fuel < 2 ^ 63
+IsUsable (solve theory script inputs fuel) = fuel < 2 ^ 63

@@ -1,7 +1,8 @@
 ghost use Rattle.std.specs.Prelude.{◌≡◌, IfOk};
 ghost use Rattle.std.specs.String.{string_bytes};
-ghost use Rattle.kid_top.specs.Stops.{status_of, numbered_text, stop_text};
+ghost use Rattle.kid_top.specs.Stops.{status_of, numbered_text, code_word, program_text, stop_text};
 
+use kid_prog::{LoadCode, LoadFault};
 use std::alloc::{AllocError, Global};
 use thiserror::Error;
 
@@ -14,6 +15,10 @@ pub enum Stop {
     Usage,
     #[error("a file or the output failed")]
     Failed,
+    #[error("the program is refused: {0}")]
+    Program(LoadFault),
+    #[error("form {0} of the inputs is none")]
+    Inputs(u32),
     #[error("file {0} is of a form that is not built yet")]
     Unbuilt(u8),
     #[error("file {0} is absent")]
@@ -29,6 +34,8 @@ impl Stop {
             Stop::Memory => 1,
             Stop::Usage => 2,
             Stop::Failed => 3,
+            Stop::Program(_) => 7,
+            Stop::Inputs(_) => 8,
             Stop::Unbuilt(_) => 10,
             Stop::Absent(_) => 12,
         }
@@ -42,19 +49,48 @@ impl Stop {
             Stop::Memory => String::from_str(alloc, "(memory)\n"),
             Stop::Usage => String::from_str(alloc, "(usage)\n"),
             Stop::Failed => String::from_str(alloc, "(fault)\n"),
-            Stop::Unbuilt(file) => numbered(alloc, "(unbuilt ", file),
-            Stop::Absent(file) => numbered(alloc, "(absent ", file),
+            Stop::Program(fault) => program_text(alloc, fault),
+            Stop::Inputs(form) => numbered(alloc, "(inputs ", form),
+            Stop::Unbuilt(file) => numbered(alloc, "(unbuilt ", u32::from(file)),
+            Stop::Absent(file) => numbered(alloc, "(absent ", u32::from(file)),
         }
     }
 }
 
 /// The words, the number and the end of a list and a line.
-fn numbered(alloc: Global, words: &str, number: u8) -> Result<String, AllocError>
+fn numbered(alloc: Global, words: &str, number: u32) -> Result<String, AllocError>
     ensures { IfOk result (λ text. string_bytes text ≡ numbered_text words.now number) }
 {
     let mut text = String::from_str(alloc, words)?;
     let number = number.to_string(alloc)?;
     text.push_str(number.as_str())?;
+    text.push_str(")\n")?;
+    Ok(text)
+}
+
+/// The word for a code.
+fn code_word(code: LoadCode) -> &'static str
+    ensures { result.now ≡ code_word code }
+{
+    match code {
+        LoadCode::Large => "large",
+        LoadCode::Read => "read",
+        LoadCode::Version => "version",
+        LoadCode::Form => "form",
+        LoadCode::Sort => "sort",
+        LoadCode::Memory => "memory",
+    }
+}
+
+/// The line for a program that is refused.
+fn program_text(alloc: Global, fault: LoadFault) -> Result<String, AllocError>
+    ensures { IfOk result (λ text. string_bytes text ≡ program_text fault) }
+{
+    let mut text = String::from_str(alloc, "(program ")?;
+    let number = fault.form.to_string(alloc)?;
+    text.push_str(number.as_str())?;
+    text.push_str(" ")?;
+    text.push_str(code_word(fault.code))?;
     text.push_str(")\n")?;
     Ok(text)
 }

@@ -1,9 +1,9 @@
-use Rattle.std.proofs.Common.{◌≡◌, true}
-use Rattle.kid_top.specs.declared.theory.Theory.{Theory}
-use Rattle.kid_top.specs.Theory.{plain_theory, is_proper}
-use Rattle.kid_top.proofs.StageLemmas.{taken_ok}
+use Rattle.kid_top.specs.Files.{theory_file}
+use Rattle.kid_top.specs.Theory.{plain_theory}
+use Rattle.kid_top.proofs.StageLemmas.{stage_taken}
 use Rattle.kid_top.proofs.stages.theory_stage.Goals as goal
 
-pub returns-clause-proper : goal.returns-clause-proper
-returns-clause-proper g c =
-    taken_ok 1 c.theory_file.result c.taken.result (λ (t : Theory). is_proper (plain_theory t) ≡ true) c.taken.ensures c.theory_file.ensures.proper
+pub returns-in-Ok-clause-outcome : goal.returns-in-Ok-clause-outcome
+returns-in-Ok-clause-outcome g c =
+    stage_taken (g.S.Store.held c.args.store.now) 1 theory_file plain_theory c.args.name.now c.deref.result.now c.in-Some.bytes c.in_ok-bytes.field-0 c.in-Ok.theory
+    c.in_ok-bytes.ensures.outcome c.in-Some.is c.deref.ensures.value c.in-Ok.ensures.gives

@@ -1,0 +1,26 @@
+-- Forms, and lists of so many trees.
+use Rattle.std.specs.Prelude.{ℕ, Bool, false, List, Option, Some, None, if◌then◌else◌}
+use Rattle.std.specs.Str.{bytes_eq}
+use Rattle.kid_sexp.specs.Plain.{Plain, Plains, atom, list, none, more}
+
+-- whether the tree is this word
+abbrev pub is_atom : List ℕ → Plain → Bool
+is_atom word (atom w) = bytes_eq w word
+is_atom word (list ts) = false
+
+-- what stands behind the word in a form that begins with it
+abbrev pub form : List ℕ → Plain → Option Plains
+form word (atom w) = None
+form word (list none) = None
+form word (list (more t ts)) = if is_atom word t then Some ts else None
+
+abbrev pub single : Plains → Option Plain
+single none = None
+single (more t none) = Some t
+single (more t (more u us)) = None
+
+abbrev pub couple : Plains → Option (Plain × Plain)
+couple none = None
+couple (more t none) = None
+couple (more t (more u none)) = Some (t, u)
+couple (more t (more u (more v vs))) = None

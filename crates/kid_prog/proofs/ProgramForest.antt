@@ -1,0 +1,42 @@
+-- The forms of a program, put one after another.
+use Rattle.std.proofs.Common.{◌≡◌, List, [], ◌∷◌, refl, ap, ◌∙◌}
+use Rattle.std.specs.Prelude.{codes, pos}
+use Rattle.kid_sexp.specs.Plain.{Plain, Plains, list, none, more, one, join}
+use Rattle.kid_term.specs.Names.{Names, PlainDef}
+use Rattle.kid_codec.specs.SortSpelling.{number_tree, headed}
+use Rattle.kid_codec.specs.TermSpelling.{term_spelling}
+use Rattle.kid_codec.proofs.Each.{join-one}
+use Rattle.kid_prog.specs.PlainProgram.{PlainProgram}
+use Rattle.kid_prog.specs.Spelling.{stmt_spellings, named_spelling, names_spelling, definition_spelling, definitions_before, inputs_before, last_forms, program_spelling}
+
+definitions-join : (ds : List PlainDef) (first rest : Plains) → join (definitions_before ds first) rest ≡ definitions_before ds (join first rest)
+definitions-join [] first rest = refl
+definitions-join (d ∷ ds) first rest = ap (more (definition_spelling d)) (definitions-join ds first rest)
+
+inputs-join : (ns : Names) (rest : Plains) → join (inputs_before ns none) rest ≡ inputs_before ns rest
+inputs-join [] rest = refl
+inputs-join (n ∷ ns) rest = ap (more (headed (codes "input") (named_spelling n))) (inputs-join ns rest)
+
+pub first-joined : (start pushed forms new : Plains) (t v : Plain) (ds es : List PlainDef) (ms ns : Names) → start ≡ none → pushed ≡ join start (one t) → t ≡ v
+    → forms ≡ join pushed (definitions_before ds none) → ds ≡ es → new ≡ join forms (inputs_before ms none) → ms ≡ ns → new ≡ more v (definitions_before es (inputs_before ns none))
+first-joined start pushed forms new t v ds es ms ns a b c d e f g =
+    let front : pushed ≡ one v = b ∙ (λ i. join (a i) (one (c i))) in
+    let begun : forms ≡ more v (definitions_before es none) = d ∙ (λ i. join (front i) (definitions_before (e i) none)) in
+    f ∙ (λ i. join (begun i) (inputs_before (g i) none)) ∙ ap (more v) (definitions-join es none (inputs_before ns none))
+
+four-joined : (f a b c d : Plains) (r o m s : Plain) → a ≡ join f (one r) → b ≡ join a (one o) → c ≡ join b (one m) → d ≡ join c (one s) → d ≡ join f (more r (more o (more m (one s))))
+four-joined f a b c d r o m s t u v w =
+    w ∙ ap (λ (ts : Plains). join ts (one s)) v ∙ join-one b m (one s)
+    ∙ ap (λ (ts : Plains). join ts (more m (one s))) u ∙ join-one a o (more m (one s))
+    ∙ ap (λ (ts : Plains). join ts (more o (more m (one s)))) t ∙ join-one f r (more o (more m (one s)))
+
+pub last-joined : (p : PlainProgram) (f a b c d : Plains) (r o m s : Plain)
+    → f ≡ more (headed (codes "program") (one (number_tree (pos 1)))) (definitions_before p.definitions (inputs_before p.inputs none))
+    → a ≡ join f (one r) → b ≡ join a (one o) → c ≡ join b (one m) → d ≡ join c (one s)
+    → r ≡ headed (codes "require") (one (term_spelling p.condition)) → o ≡ headed (codes "output") (named_spelling (p.output, p.sort))
+    → m ≡ headed (codes "main") (stmt_spellings p.main) → s ≡ headed (codes "search") (more (list (names_spelling p.parameters)) (stmt_spellings p.search))
+    → d ≡ program_spelling p
+last-joined p f a b c d r o m s first t u v w j k l n =
+    four-joined f a b c d r o m s t u v w ∙ (λ i. join (first i) (more (j i) (more (k i) (more (l i) (one (n i))))))
+    ∙ ap (more (headed (codes "program") (one (number_tree (pos 1)))))
+    (definitions-join p.definitions (inputs_before p.inputs none) (last_forms p) ∙ ap (definitions_before p.definitions) (inputs-join p.inputs (last_forms p)))

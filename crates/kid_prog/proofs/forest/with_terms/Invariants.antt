@@ -1,0 +1,12 @@
+use Rattle.std.proofs.Common.{◌≡◌, true, drop, map}
+use Rattle.kid_sexp.specs.Plain.{join}
+use Rattle.kid_term.specs.PlainTerm.{term_row}
+use Rattle.kid_term.specs.TermView.{plain_term}
+use Rattle.kid_codec.specs.TermSpelling.{term_spellings, are_spelled_terms}
+use Rattle.kid_prog.proofs.forest.with_terms.Given as goal
+
+abbrev pub invariant-loop-term : goal.invariant-loop-term
+invariant-loop-term l = record {
+  told : join l.trees (term_spellings (term_row (map plain_term (drop l.term-index l.terms)))) ≡ join l.initial.trees (term_spellings (term_row (map plain_term l.terms)));
+  spelled : are_spelled_terms (term_row (map plain_term (drop l.term-index l.terms))) ≡ true;
+}

@@ -1,0 +1,17 @@
+pub mod PlainStmt
+pub mod StmtCode
+pub mod StmtView
+pub mod StmtFalls
+pub mod PlainProgram
+pub mod ProgramView
+pub mod Rules
+pub mod StmtShape
+pub mod Forms
+pub mod Loading
+pub mod Spelling
+pub mod Laws
+pub mod SettingView
+pub mod Steps
+pub mod FormAnswers
+pub mod FormParts
+pub mod StageAnswers

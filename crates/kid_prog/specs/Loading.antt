@@ -1,0 +1,103 @@
+-- The program that a file spells, or the first form that is refused.
+use Rattle.std.specs.Prelude.{◌≡◌, ℕ, suc, nat_le, List, [], ◌∷◌, ◌++◌, length, Result, Ok, Err, if◌then◌else◌, ⊤}
+use Rattle.kid_sexp.specs.Plain.{Plains, none, more}
+use Rattle.kid_sexp.specs.Brackets.{Fault}
+use Rattle.kid_sexp.specs.Reading.{reading}
+use Rattle.kid_value.specs.PlainSort.{PlainSort}
+use Rattle.kid_term.specs.PlainTerm.{PlainTerm}
+use Rattle.kid_term.specs.Names.{Names}
+use Rattle.kid_prog.specs.PlainStmt.{PlainStmts}
+use Rattle.kid_prog.specs.PlainProgram.{PlainProgram}
+use Rattle.kid_prog.specs.Forms.{version_form, is_input, input_form, require_form, output_form, known_parameters, main_form, search_form}
+use Rattle.kid_prog.specs.declared.fault.LoadCode.{LoadCode}
+use Rattle.kid_prog.specs.declared.fault.LoadCode.TheVariants as code
+use Rattle.kid_prog.specs.declared.fault.LoadFault.{LoadFault}
+
+abbrev pub Loaded : Type 0 → Type 0
+Loaded A = Result A LoadFault
+
+infixl 10 ◌>>=◌
+abbrev pub ◌>>=◌ : {A B : Type 0} → Loaded A → (A → Loaded B) → Loaded B
+(Ok x) >>= f = f x
+(Err e) >>= f = Err e
+
+abbrev pub refused : {A : Type 0} → ℕ → LoadCode → Loaded A
+refused k c = Err (record { form = k; code = c })
+
+-- what the form with this number holds
+abbrev pub at : {A : Type 0} → ℕ → Result A LoadCode → Loaded A
+at k (Ok x) = Ok x
+at k (Err c) = refused k c
+
+-- what the forms before main hold
+pub record Heading : Type 0 where
+  pub inputs : Names
+  pub condition : PlainTerm
+  pub output : List ℕ × PlainSort
+
+abbrev pub program_with : Heading → PlainStmts → Names × PlainStmts → PlainProgram
+program_with h main search = record {
+  definitions = [];
+  inputs = h.inputs;
+  condition = h.condition;
+  output = h.output.0;
+  sort = h.output.1;
+  main = main;
+  parameters = search.0;
+  search = search.1;
+}
+
+-- Of each of the following the number is that of the forms before.
+
+-- no form stands after the last
+abbrev pub at_end : ℕ → PlainProgram → Plains → Loaded PlainProgram
+at_end k p none = Ok p
+at_end k p (more t ts) = refused (suc k) code.Form
+
+abbrev pub after_main : ℕ → Heading → PlainStmts → Plains → Loaded PlainProgram
+after_main k h main none = refused (suc k) code.Form
+after_main k h main (more t ts) =
+    at (suc k) (search_form h.inputs h.output t) >>= λ search. at_end (suc k) (program_with h main search) ts
+
+abbrev pub after_output : ℕ → Heading → Plains → Loaded PlainProgram
+after_output k h none = refused (suc k) code.Form
+after_output k h (more t ts) =
+    at (suc k) (main_form h.inputs h.output.1 (known_parameters (h.inputs ++ h.output ∷ []) ts) t)
+    >>= λ main. after_main (suc k) h main ts
+
+abbrev pub after_condition : ℕ → Names → PlainTerm → Plains → Loaded PlainProgram
+after_condition k inputs condition none = refused (suc k) code.Form
+after_condition k inputs condition (more t ts) =
+    at (suc k) (output_form inputs t)
+    >>= λ output. after_output (suc k) (record { inputs = inputs; condition = condition; output = output }) ts
+
+-- after these inputs
+abbrev pub after_inputs : ℕ → Names → Plains → Loaded PlainProgram
+after_inputs k inputs none = refused (suc k) code.Form
+after_inputs k inputs (more t ts) =
+    if is_input t
+    then (at (suc k) (input_form inputs t) >>= λ n. after_inputs (suc k) (inputs ++ n ∷ []) ts)
+    else (at (suc k) (require_form inputs t) >>= λ condition. after_condition (suc k) inputs condition ts)
+
+-- the forms of a program
+abbrev pub program_from : Plains → Loaded PlainProgram
+program_from none = refused 1 code.Form
+program_from (more t ts) = at 1 (version_form t) >>= λ _. after_inputs 1 [] ts
+
+abbrev pub from_forest : Result Plains Fault → Loaded PlainProgram
+from_forest (Err fault) = refused 0 code.Read
+from_forest (Ok ts) = program_from ts
+
+-- the program that a file of at most 4,194,304 bytes spells
+abbrev pub loading : List ℕ → Loaded PlainProgram
+loading bytes = if nat_le (length bytes) 4194304 then from_forest (reading bytes) else refused 0 code.Large
+
+-- want of memory says nothing
+abbrev pub Fails : {A : Type 0} → LoadFault → LoadCode → Loaded A → Type 0
+Fails fault code.Memory there = ⊤
+Fails fault c there = there ≡ Err fault
+
+-- the answer is what there is, or the fault
+abbrev pub Loads : {X Y : Type 0} → (X → Y) → Result X LoadFault → Loaded Y → Type 0
+Loads view (Ok x) there = there ≡ Ok (view x)
+Loads view (Err fault) there = Fails fault fault.code there

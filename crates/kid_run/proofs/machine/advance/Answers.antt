@@ -1,0 +1,58 @@
+use Rattle.std.proofs.Common.{ap, ◌∙◌}
+use Rattle.kid_value.specs.ValueView.{plain}
+use Rattle.kid_term.specs.Eval.{calls_of}
+use Rattle.kid_prog.specs.ProgramView.{plain_program}
+use Rattle.kid_run.specs.Account.{told}
+use Rattle.kid_run.specs.Frames.{doing}
+use Rattle.kid_run.specs.FrameView.{plain_machine}
+use Rattle.kid_run.specs.Running.{within}
+use Rattle.kid_run.specs.declared.moves.Move.TheVariants.{Goes, Finds, Calls, Ends}
+use Rattle.kid_run.proofs.Accounts.{moved, told-found}
+use Rattle.kid_run.proofs.machine.advance.Goals as goal
+
+pub loop-value-smaller-in-Goes : goal.loop-value-smaller-in-Goes
+loop-value-smaller-in-Goes c =
+    (moved (plain_program c.args.program.now) c.requires.runs (plain_machine c.loop-value.machine) c.loop-value.invariant.can c.in_ok-step.field-0 (plain_machine c.step.new.machine)
+    c.in_ok-step.ensures Goes c.in-Goes.is).2
+
+pub loop-value-preserved-in-Goes : goal.loop-value-preserved-in-Goes
+loop-value-preserved-in-Goes c =
+    let k = moved (plain_program c.args.program.now) c.requires.runs (plain_machine c.loop-value.machine) c.loop-value.invariant.can c.in_ok-step.field-0 (plain_machine c.step.new.machine)
+    c.in_ok-step.ensures Goes c.in-Goes.is in
+    record {
+      same = λ f n. c.loop-value.invariant.same f n ∙ ap (λ es. told c.loop-value.tally (within n es)) (k.0 f);
+      can = k.1;
+      splits = c.loop-value.invariant.splits;
+    }
+
+pub count-requires : goal.count-requires
+count-requires c =
+    (moved (plain_program c.args.program.now) c.requires.runs (plain_machine c.loop-value.machine) c.loop-value.invariant.can c.in_ok-step.field-0 (plain_machine c.step.new.machine)
+    c.in_ok-step.ensures (Finds c.in-Finds.value) c.in-Finds.is).3
+
+pub loop-value-preserved : goal.loop-value-preserved
+loop-value-preserved c =
+    let p = plain_program c.args.program.now in
+    let k = moved p c.requires.runs (plain_machine c.loop-value.machine) c.loop-value.invariant.can c.in_ok-step.field-0 (plain_machine c.step.new.machine) c.in_ok-step.ensures
+    (Finds c.in-Finds.value) c.in-Finds.is in
+    record {
+      same =
+          λ f n. c.loop-value.invariant.same f n
+          ∙ ap (λ es. told c.loop-value.tally (within n es)) (k.0 f)
+          ∙ told-found c.loop-value.tally c.count.new.tally (plain c.in-Finds.value) (within n (doing (calls_of p.definitions) f (plain_machine c.step.new.machine))) c.in_ok-count-in-Finds.ensures.lines
+          c.in_ok-count-in-Finds.ensures.answers c.in_ok-count-in-Finds.ensures.splits;
+      can = k.1;
+      splits = c.in_ok-count-in-Finds.ensures.splits ∙ c.loop-value.invariant.splits;
+    }
+
+pub returns-in-Calls-clause-advances : goal.returns-in-Calls-clause-advances
+returns-in-Calls-clause-advances c =
+    let k = moved (plain_program c.args.program.now) c.requires.runs (plain_machine c.loop-value.machine) c.loop-value.invariant.can c.in_ok-step.field-0 (plain_machine c.step.new.machine)
+    c.in_ok-step.ensures (Calls c.in-Calls.values) c.in-Calls.is in
+    ((λ f l. c.loop-value.invariant.same f l ∙ ap (λ es. told c.loop-value.tally (within l es)) (k.0 f)), k.1, k.2)
+
+pub returns-in-Ends-clause-advances : goal.returns-in-Ends-clause-advances
+returns-in-Ends-clause-advances c =
+    let k = moved (plain_program c.args.program.now) c.requires.runs (plain_machine c.loop-value.machine) c.loop-value.invariant.can c.in_ok-step.field-0 (plain_machine c.step.new.machine)
+    c.in_ok-step.ensures Ends c.in-Ends.is in
+    λ f l. c.loop-value.invariant.same f l ∙ ap (λ es. told c.loop-value.tally (within l es)) (k f)

@@ -1,0 +1,11 @@
+pub mod Running
+pub mod Lines
+pub mod InputReading
+pub mod Gives
+pub mod Reporting
+pub mod Frames
+pub mod Scope
+pub mod FrameView
+pub mod MoveView
+pub mod Account
+pub mod Sample

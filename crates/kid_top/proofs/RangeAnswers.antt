@@ -1,0 +1,88 @@
+-- What the search of a theory's integers finds is the answer.
+use Rattle.std.proofs.Common.{◌≡◌, suc, Bool, true, false, ◌&&◌, ◌||◌, List, [], ◌∷◌, map, refl, sym, ap, ◌∙◌, subst, arith}
+use Rattle.std.specs.Prelude.{ℤ, pos, ◌+ℤ◌, ◌≤ℤ◌, ◌<ℤ◌, int_le}
+use Rattle.std.specs.Int.{int_gap}
+use Rattle.std.specs.Ordering.{int_eq, int_cmp}
+use Rattle.std.specs.declared.cmp.Ordering.TheVariants.{Less}
+use Rattle.std.proofs.lemmas.Int.{ints as int_rules}
+use Rattle.kid_value.specs.PlainValue.{PlainValue, PlainValues, PlainEntries, int, bool, pair, set, seq, map_of}
+use Rattle.kid_value.specs.PlainSort.{PlainSort, ints}
+use Rattle.kid_value.specs.InSort.{in_sort}
+use Rattle.kid_value.specs.ValueSet.{is_member, AllAfter, Ascends}
+use Rattle.kid_term.specs.Eval.{Env}
+use Rattle.kid_top.specs.Theory.{PlainTheory}
+use Rattle.kid_top.specs.Search.{range_search}
+use Rattle.kid_top.specs.Answer.{relates, relates_at, Answer}
+use Rattle.kid_top.proofs.Ranges.{Within, range-within, is_in, is_in-below, is_in-above, range-exact}
+
+cmp-less : (z y : ℤ) → z <ℤ y → int_cmp z y ≡ Less
+cmp-less z y lt = grind (arith, int_rules)
+
+below-all : (z lo hi : ℤ) (zs : List ℤ) → z <ℤ lo → Within lo hi zs → AllAfter (int z) (map int zs)
+below-all z lo hi [] lt w = tt
+below-all z lo hi (y ∷ ys) lt w =
+    (cmp-less z y (omega (arith, int_rules, w.0)), below-all z (y +ℤ pos 1) hi ys (omega (arith, int_rules, w.0)) w.2)
+
+ascending : (lo hi : ℤ) (zs : List ℤ) → Within lo hi zs → Ascends (map int zs)
+ascending lo hi [] w = tt
+ascending lo hi (z ∷ zs) w = (below-all z (z +ℤ pos 1) hi zs (omega (arith, int_rules)) w.2, ascending (z +ℤ pos 1) hi zs w.2)
+
+-- a value that is no integer is not among integers
+no_bool : (b : Bool) (zs : List ℤ) → is_member (bool b) (map int zs) ≡ false
+no_bool b [] = refl
+no_bool b (z ∷ zs) = no_bool b zs
+
+no_pair : (v w : PlainValue) (zs : List ℤ) → is_member (pair v w) (map int zs) ≡ false
+no_pair v w [] = refl
+no_pair v w (z ∷ zs) = no_pair v w zs
+
+no_set : (vs : PlainValues) (zs : List ℤ) → is_member (set vs) (map int zs) ≡ false
+no_set vs [] = refl
+no_set vs (z ∷ zs) = no_set vs zs
+
+no_seq : (vs : PlainValues) (zs : List ℤ) → is_member (seq vs) (map int zs) ≡ false
+no_seq vs [] = refl
+no_seq vs (z ∷ zs) = no_seq vs zs
+
+no_map : (es : PlainEntries) (zs : List ℤ) → is_member (map_of es) (map int zs) ≡ false
+no_map es [] = refl
+no_map es (z ∷ zs) = no_map es zs
+
+member-int : (z : ℤ) (zs : List ℤ) → is_member (int z) (map int zs) ≡ is_in z zs
+member-int z [] = refl
+member-int z (y ∷ ys) = ap (λ b. int_eq z y || b) (member-int z ys)
+
+le-true : (a b : ℤ) → int_le a b ≡ true → a ≤ℤ b
+le-true a b e = grind (arith, int_rules)
+
+le-false : (a b : ℤ) → int_le a b ≡ false → b <ℤ a
+le-false a b e = grind (arith, int_rules)
+
+exact-int : (good : ℤ → Bool) (lo hi z : ℤ) (zs : List ℤ) → Within lo hi zs → (lo ≤ℤ z → z ≤ℤ hi → is_in z zs ≡ good z)
+    → (a b : Bool) → int_le lo z ≡ a → int_le z hi ≡ b → is_in z zs ≡ ((a && b) && true && good z)
+exact-int good lo hi z zs w inside true true e f = inside (le-true lo z e) (le-true z hi f)
+exact-int good lo hi z zs w inside true false e f = is_in-above z lo hi zs w (le-false z hi f)
+exact-int good lo hi z zs w inside false b e f = is_in-below z lo hi zs w (le-false lo z e)
+
+range-answer : (t : PlainTheory) (x : Env) (lo hi : ℤ) → lo ≤ℤ hi
+    → (v : PlainValue) → is_member v (map int (range_search (relates_at x t.output t.relation) (lo, hi))) ≡ (in_sort (ints lo hi) v && relates t x v)
+range-answer t x lo hi le (bool b) = no_bool b (range_search (relates_at x t.output t.relation) (lo, hi))
+range-answer t x lo hi le (pair v w) = no_pair v w (range_search (relates_at x t.output t.relation) (lo, hi))
+range-answer t x lo hi le (set vs) = no_set vs (range_search (relates_at x t.output t.relation) (lo, hi))
+range-answer t x lo hi le (seq vs) = no_seq vs (range_search (relates_at x t.output t.relation) (lo, hi))
+range-answer t x lo hi le (map_of es) = no_map es (range_search (relates_at x t.output t.relation) (lo, hi))
+range-answer t x lo hi le (int z) =
+    member-int z (range_search (relates_at x t.output t.relation) (lo, hi))
+    ∙ exact-int (relates_at x t.output t.relation) lo hi z (range_search (relates_at x t.output t.relation) (lo, hi))
+    (range-within (relates_at x t.output t.relation) (suc (int_gap lo hi)) lo hi le)
+    (λ low high. range-exact (relates_at x t.output t.relation) (suc (int_gap lo hi)) lo hi z (omega arith) low high)
+    (int_le lo z) (int_le z hi) refl refl
+
+-- for a theory whose output is an integer from lo to hi
+pub range-answers : (t : PlainTheory) (x : Env) (lo hi : ℤ) → t.sort ≡ ints lo hi → lo ≤ℤ hi → Answer t x (map int (range_search (relates_at x t.output t.relation) (lo, hi)))
+range-answers t x lo hi is le =
+    let zs = range_search (relates_at x t.output t.relation) (lo, hi) in
+    record {
+      ascends = ascending lo hi zs (range-within (relates_at x t.output t.relation) (suc (int_gap lo hi)) lo hi le);
+      exact = λ v. subst (λ (s : PlainSort). is_member v (map int zs) ≡ (in_sort s v && relates t x v)) (sym is) (range-answer t x lo hi le v);
+    }

@@ -1,0 +1,32 @@
+use Rattle.std.proofs.Common.{Option, IfOk, map, subst}
+use Rattle.std.specs.String.{string_bytes}
+use Rattle.kid_outer.specs.Held.{Held}
+use Rattle.kid_top.specs.Finishing.{Finishes, FinishKeeps}
+use Rattle.kid_top.specs.Words.{plain_command}
+use Rattle.kid_top.specs.WorkView.{plain_work}
+use Rattle.kid_top.proofs.Performed.{front-untouched, gives_work, files-by, derived-by}
+use Rattle.kid_top.proofs.top.perform.Goals as goal
+
+pub returns-in_err-work-clause-front : goal.returns-in_err-work-clause-front
+returns-in_err-work-clause-front g c = front-untouched (map string_bytes c.args.words.now) (g.S.Store.held c.args.store.now) (g.O.Sink.written c.args.out.now)
+
+pub returns-clause-files : goal.returns-clause-files
+returns-clause-files g c =
+    let w = plain_work c.in_ok-work.work in
+    let old = g.O.Sink.written c.args.out.now in
+    let new = g.O.Sink.written c.finish.new.out in
+    let after = g.S.Store.held c.finish.new.store in
+    files-by (map string_bytes c.args.words.now) (plain_command c.in-Some.command) w c.finish.result old new (g.S.Store.held c.args.store.now) after
+    c.in-Some.ensures.command c.in_ok-work.ensures.suits (gives_work (plain_command c.in-Some.command) (g.S.Store.held c.args.store.now) c.in_ok-work.work c.in_ok-work.ensures.outcome)
+    (subst (λ (h : Option Held). IfOk c.finish.result (λ status. Finishes w status old new h after)) c.in_ok-work.ensures.held c.finish.ensures.done)
+    c.finish.ensures.late (subst (λ (h : Option Held). FinishKeeps w h after) c.in_ok-work.ensures.held c.finish.ensures.kept)
+
+pub returns-clause-derived : goal.returns-clause-derived
+returns-clause-derived g c =
+    let w = plain_work c.in_ok-work.work in
+    let old = g.O.Sink.written c.args.out.now in
+    let new = g.O.Sink.written c.finish.new.out in
+    let after = g.S.Store.held c.finish.new.store in
+    derived-by (map string_bytes c.args.words.now) (plain_command c.in-Some.command) c.in_ok-work.work c.finish.result old new (g.S.Store.held c.args.store.now) after
+    c.in-Some.ensures.command c.in_ok-work.ensures.outcome
+    (subst (λ (h : Option Held). IfOk c.finish.result (λ status. Finishes w status old new h after)) c.in_ok-work.ensures.held c.finish.ensures.done)

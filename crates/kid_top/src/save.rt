@@ -1,0 +1,42 @@
+ghost use Rattle.std.specs.Prelude.{◌≡◌, ◌≢◌, ◌⊎◌, OnOk, IfErr, IsErrOf};
+ghost use Rattle.kid_outer.specs.Causes.{NeverFall, Rose};
+ghost use Rattle.kid_outer.specs.Held.{ChangesOnly};
+ghost use Rattle.kid_top.specs.Saves.{SavesOne, SavesBoth, SavesInOrder, IsLateStop};
+
+use crate::stop::Stop;
+use kid_outer::{SaveAnswer, Store};
+use std::alloc::Global;
+
+/// Makes a name hold these bytes.
+fn save<S: Store>(alloc: Global, store: &mut S, name: &str, bytes: &[u8]) -> Result<(), Stop>
+    ensures ok { OnOk result (SavesOne name.now bytes.now (S.held store.old) (S.held store.new)) }
+    ensures others { ChangesOnly name.now (S.held store.old) (S.held store.new) }
+    ensures failed { IsErrOf result Stop.Failed → Rose (S.faults store.old name.now) (S.faults store.new name.now) }
+    ensures late { IfErr result IsLateStop }
+    ensures later { NeverFall (S.faults store.old) (S.faults store.new) }
+{
+    match store.save(alloc, name, bytes) {
+        Ok(()) => Ok(()),
+        Err(SaveAnswer::Failed) => Err(Stop::Failed),
+        Err(SaveAnswer::Memory) => Err(Stop::Memory),
+    }
+}
+
+/// Saves the derivation, and then the program. The two names differ. Where the second is not saved the first stays.
+pub fn save_both<S: Store>(
+    alloc: Global,
+    store: &mut S,
+    derivation: &str,
+    program: &str,
+    derivation_bytes: &[u8],
+    program_bytes: &[u8],
+) -> Result<(), Stop>
+    requires { derivation.now ≢ program.now }
+    ensures ok { OnOk result (SavesBoth derivation.now program.now derivation_bytes.now program_bytes.now (S.held store.old) (S.held store.new)) }
+    ensures kept { SavesInOrder derivation.now program.now derivation_bytes.now (S.held store.old) (S.held store.new) }
+    ensures failed { IsErrOf result Stop.Failed → Rose (S.faults store.old derivation.now) (S.faults store.new derivation.now) ⊎ Rose (S.faults store.old program.now) (S.faults store.new program.now) }
+    ensures late { IfErr result IsLateStop }
+{
+    save(alloc, store, derivation, derivation_bytes)?;
+    save(alloc, store, program, program_bytes)
+}
