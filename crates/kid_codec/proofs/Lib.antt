@@ -13,3 +13,4 @@ pub mod ValueBack
 pub mod ValueTold
 pub mod Words
 pub mod Shapes
+pub mod SortedCasts

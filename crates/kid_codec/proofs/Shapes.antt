@@ -2,7 +2,7 @@
 use Rattle.std.proofs.Common.{◌≡◌, ◌<◌, ◌≤◌, List, [], ◌∷◌, length, refl, arith, None}
 use Rattle.kid_sexp.specs.declared.tree.Tree.{Tree}
 use Rattle.kid_sexp.specs.Tree.{plains}
-use Rattle.kid_codec.specs.Shape.{single, couple}
+use Rattle.kid_codec.specs.Shape.{single, couple, quadruple}
 
 pub single-short : (ts : List Tree) → length ts < 1 → single (plains ts) ≡ None
 single-short [] h = refl
@@ -24,4 +24,19 @@ couple-long (a ∷ []) h = refl
 couple-long (a ∷ b ∷ []) h = absurd (omega arith)
 couple-long (a ∷ b ∷ c ∷ ts) h = refl
 
-pub ruleset shapes = (single-short, single-long, couple-short, couple-long)
+pub quadruple-short : (ts : List Tree) → length ts < 4 → quadruple (plains ts) ≡ None
+quadruple-short [] h = refl
+quadruple-short (a ∷ []) h = refl
+quadruple-short (a ∷ b ∷ []) h = refl
+quadruple-short (a ∷ b ∷ c ∷ []) h = refl
+quadruple-short (a ∷ b ∷ c ∷ d ∷ ts) h = absurd (omega arith)
+
+pub quadruple-long : (ts : List Tree) → 5 ≤ length ts → quadruple (plains ts) ≡ None
+quadruple-long [] h = refl
+quadruple-long (a ∷ []) h = absurd (omega arith)
+quadruple-long (a ∷ b ∷ []) h = absurd (omega arith)
+quadruple-long (a ∷ b ∷ c ∷ []) h = absurd (omega arith)
+quadruple-long (a ∷ b ∷ c ∷ d ∷ []) h = absurd (omega arith)
+quadruple-long (a ∷ b ∷ c ∷ d ∷ e ∷ ts) h = refl
+
+pub ruleset shapes = (single-short, single-long, couple-short, couple-long, quadruple-short, quadruple-long)

@@ -10,8 +10,13 @@ use Rattle.kid_value.specs.PlainSort.{PlainSort, both, in_limits, is_allowed}
 use Rattle.kid_value.proofs.SortLemmas.{and_parts, and_both}
 use Rattle.kid_term.specs.declared.operator.LogicOp.TheVariants as logic
 use Rattle.kid_term.specs.declared.operator.NumberOp.TheVariants as num
+use Rattle.kid_term.specs.declared.operator.PairOp.TheVariants as pair_op
+use Rattle.kid_term.specs.declared.operator.SetOp.TheVariants as set_op
+use Rattle.kid_term.specs.declared.operator.SeqOp.TheVariants as seq_op
+use Rattle.kid_term.specs.declared.operator.MapOp.TheVariants as map_op
+use Rattle.kid_term.specs.declared.operator.WordOp.TheVariants as word_op
 use Rattle.kid_term.specs.declared.operator.Op.{Op}
-use Rattle.kid_term.specs.declared.operator.Op.TheVariants.{Logic, Number}
+use Rattle.kid_term.specs.declared.operator.Op.TheVariants.{Logic, Number, Pair, Set, Seq, Map, Word}
 use Rattle.kid_term.specs.declared.operator.Binder.{Binder}
 use Rattle.kid_term.specs.declared.operator.Binder.TheVariants as binder
 use Rattle.kid_term.specs.PlainTerm.{PlainHead, op, call, cast, PlainTerm, var, number, truth, app, bind, PlainTerms, no_term, term, terms, term_row}
@@ -19,8 +24,8 @@ use Rattle.kid_codec.specs.Name.{is_name, is_reserved, starts_with_letter, is_na
 use Rattle.kid_codec.specs.Number.{number_of}
 use Rattle.kid_codec.specs.Reading.{judged, ◌>>=◌}
 use Rattle.kid_codec.specs.SortSpelling.{sort_spelling, is_spelled_sort, spelled_sort}
-use Rattle.kid_codec.specs.TermSpelling.{term_spelling, term_spellings, is_spelled_head, is_spelled_term, are_spelled_terms, is_allowed_head, casts_are_allowed, all_casts_are_allowed, applied, called, casted, operated, headed_by, term_of_parts, body_of, spelled_name, spelled_term, spelled_terms, spelled_cast, spelled_body, term_reading}
-use Rattle.kid_codec.specs.Word.{word_of, binder_word, op_of, binder_of, argument_count}
+use Rattle.kid_codec.specs.TermSpelling.{term_spelling, term_spellings, is_spelled_head, is_spelled_term, are_spelled_terms, is_allowed_head, casts_are_allowed, all_casts_are_allowed, applied, suits, called, casted, operated, headed_by, term_of_parts, body_of, spelled_name, spelled_term, spelled_terms, spelled_cast, spelled_body, term_reading}
+use Rattle.kid_codec.specs.Word.{word_of, binder_word, op_of, binder_of}
 use Rattle.kid_codec.specs.declared.fault.CodecFault.{CodecFault}
 use Rattle.kid_codec.specs.declared.fault.CodecFault.TheVariants as fault
 use Rattle.kid_codec.proofs.Numbers.{number_of-decimal, no_letter}
@@ -46,6 +51,52 @@ op_no_name (Number num.Div) = refl
 op_no_name (Number num.Mod) = refl
 op_no_name (Number num.Min) = refl
 op_no_name (Number num.Max) = refl
+op_no_name (Pair pair_op.Pair) = refl
+op_no_name (Pair pair_op.Fst) = refl
+op_no_name (Pair pair_op.Snd) = refl
+op_no_name (Set set_op.Set) = refl
+op_no_name (Set set_op.Range) = refl
+op_no_name (Set set_op.In) = refl
+op_no_name (Set set_op.Subset) = refl
+op_no_name (Set set_op.Union) = refl
+op_no_name (Set set_op.With) = refl
+op_no_name (Set set_op.Inter) = refl
+op_no_name (Set set_op.Diff) = refl
+op_no_name (Set set_op.Without) = refl
+op_no_name (Set set_op.Card) = refl
+op_no_name (Set set_op.Sum) = refl
+op_no_name (Set set_op.Least) = refl
+op_no_name (Seq seq_op.Seq) = refl
+op_no_name (Seq seq_op.Len) = refl
+op_no_name (Seq seq_op.At) = refl
+op_no_name (Seq seq_op.Snoc) = refl
+op_no_name (Seq seq_op.Rest) = refl
+op_no_name (Seq seq_op.Items) = refl
+op_no_name (Seq seq_op.Total) = refl
+op_no_name (Seq seq_op.Prefix) = refl
+op_no_name (Map map_op.Map) = refl
+op_no_name (Map map_op.Dom) = refl
+op_no_name (Map map_op.Ran) = refl
+op_no_name (Map map_op.Get) = refl
+op_no_name (Map map_op.Put) = refl
+op_no_name (Map map_op.Drop) = refl
+op_no_name (Map map_op.Fill) = refl
+op_no_name (Map map_op.Submap) = refl
+op_no_name (Map map_op.Fits) = refl
+op_no_name (Map map_op.Narrow) = refl
+op_no_name (Word word_op.Wenc) = refl
+op_no_name (Word word_op.Wdec) = refl
+op_no_name (Word word_op.Wor) = refl
+op_no_name (Word word_op.Wand) = refl
+op_no_name (Word word_op.Wnot) = refl
+op_no_name (Word word_op.Wcard) = refl
+op_no_name (Word word_op.Win) = refl
+op_no_name (Word word_op.Wleast) = refl
+op_no_name (Word word_op.Renc) = refl
+op_no_name (Word word_op.Rdec) = refl
+op_no_name (Word word_op.Rget) = refl
+op_no_name (Word word_op.Rput) = refl
+op_no_name (Word word_op.Rdrop) = refl
 
 op_no_cast : (o : Op) → bytes_eq (word_of o) (codes "cast") ≡ false
 op_no_cast (Logic logic.Not) = refl
@@ -64,6 +115,52 @@ op_no_cast (Number num.Div) = refl
 op_no_cast (Number num.Mod) = refl
 op_no_cast (Number num.Min) = refl
 op_no_cast (Number num.Max) = refl
+op_no_cast (Pair pair_op.Pair) = refl
+op_no_cast (Pair pair_op.Fst) = refl
+op_no_cast (Pair pair_op.Snd) = refl
+op_no_cast (Set set_op.Set) = refl
+op_no_cast (Set set_op.Range) = refl
+op_no_cast (Set set_op.In) = refl
+op_no_cast (Set set_op.Subset) = refl
+op_no_cast (Set set_op.Union) = refl
+op_no_cast (Set set_op.With) = refl
+op_no_cast (Set set_op.Inter) = refl
+op_no_cast (Set set_op.Diff) = refl
+op_no_cast (Set set_op.Without) = refl
+op_no_cast (Set set_op.Card) = refl
+op_no_cast (Set set_op.Sum) = refl
+op_no_cast (Set set_op.Least) = refl
+op_no_cast (Seq seq_op.Seq) = refl
+op_no_cast (Seq seq_op.Len) = refl
+op_no_cast (Seq seq_op.At) = refl
+op_no_cast (Seq seq_op.Snoc) = refl
+op_no_cast (Seq seq_op.Rest) = refl
+op_no_cast (Seq seq_op.Items) = refl
+op_no_cast (Seq seq_op.Total) = refl
+op_no_cast (Seq seq_op.Prefix) = refl
+op_no_cast (Map map_op.Map) = refl
+op_no_cast (Map map_op.Dom) = refl
+op_no_cast (Map map_op.Ran) = refl
+op_no_cast (Map map_op.Get) = refl
+op_no_cast (Map map_op.Put) = refl
+op_no_cast (Map map_op.Drop) = refl
+op_no_cast (Map map_op.Fill) = refl
+op_no_cast (Map map_op.Submap) = refl
+op_no_cast (Map map_op.Fits) = refl
+op_no_cast (Map map_op.Narrow) = refl
+op_no_cast (Word word_op.Wenc) = refl
+op_no_cast (Word word_op.Wdec) = refl
+op_no_cast (Word word_op.Wor) = refl
+op_no_cast (Word word_op.Wand) = refl
+op_no_cast (Word word_op.Wnot) = refl
+op_no_cast (Word word_op.Wcard) = refl
+op_no_cast (Word word_op.Win) = refl
+op_no_cast (Word word_op.Wleast) = refl
+op_no_cast (Word word_op.Renc) = refl
+op_no_cast (Word word_op.Rdec) = refl
+op_no_cast (Word word_op.Rget) = refl
+op_no_cast (Word word_op.Rput) = refl
+op_no_cast (Word word_op.Rdrop) = refl
 
 op_no_binder : (o : Op) → binder_of (word_of o) ≡ None
 unfolding binder_of
@@ -83,6 +180,52 @@ op_no_binder (Number num.Div) = refl
 op_no_binder (Number num.Mod) = refl
 op_no_binder (Number num.Min) = refl
 op_no_binder (Number num.Max) = refl
+op_no_binder (Pair pair_op.Pair) = refl
+op_no_binder (Pair pair_op.Fst) = refl
+op_no_binder (Pair pair_op.Snd) = refl
+op_no_binder (Set set_op.Set) = refl
+op_no_binder (Set set_op.Range) = refl
+op_no_binder (Set set_op.In) = refl
+op_no_binder (Set set_op.Subset) = refl
+op_no_binder (Set set_op.Union) = refl
+op_no_binder (Set set_op.With) = refl
+op_no_binder (Set set_op.Inter) = refl
+op_no_binder (Set set_op.Diff) = refl
+op_no_binder (Set set_op.Without) = refl
+op_no_binder (Set set_op.Card) = refl
+op_no_binder (Set set_op.Sum) = refl
+op_no_binder (Set set_op.Least) = refl
+op_no_binder (Seq seq_op.Seq) = refl
+op_no_binder (Seq seq_op.Len) = refl
+op_no_binder (Seq seq_op.At) = refl
+op_no_binder (Seq seq_op.Snoc) = refl
+op_no_binder (Seq seq_op.Rest) = refl
+op_no_binder (Seq seq_op.Items) = refl
+op_no_binder (Seq seq_op.Total) = refl
+op_no_binder (Seq seq_op.Prefix) = refl
+op_no_binder (Map map_op.Map) = refl
+op_no_binder (Map map_op.Dom) = refl
+op_no_binder (Map map_op.Ran) = refl
+op_no_binder (Map map_op.Get) = refl
+op_no_binder (Map map_op.Put) = refl
+op_no_binder (Map map_op.Drop) = refl
+op_no_binder (Map map_op.Fill) = refl
+op_no_binder (Map map_op.Submap) = refl
+op_no_binder (Map map_op.Fits) = refl
+op_no_binder (Map map_op.Narrow) = refl
+op_no_binder (Word word_op.Wenc) = refl
+op_no_binder (Word word_op.Wdec) = refl
+op_no_binder (Word word_op.Wor) = refl
+op_no_binder (Word word_op.Wand) = refl
+op_no_binder (Word word_op.Wnot) = refl
+op_no_binder (Word word_op.Wcard) = refl
+op_no_binder (Word word_op.Win) = refl
+op_no_binder (Word word_op.Wleast) = refl
+op_no_binder (Word word_op.Renc) = refl
+op_no_binder (Word word_op.Rdec) = refl
+op_no_binder (Word word_op.Rget) = refl
+op_no_binder (Word word_op.Rput) = refl
+op_no_binder (Word word_op.Rdrop) = refl
 
 binder_no_name : (b : Binder) → is_name (binder_word b) ≡ false
 unfolding is_reserved
@@ -127,7 +270,7 @@ row_terms (term t ts) = ap (term t) (row_terms ts)
 counted : (m n : ℕ) → (m == n) ≡ true → m ≡ n
 counted m n p = grind (arith, nat_tests)
 
-op_read : (o : Op) (ts : PlainTerms) (cast_term : Option PlainTerm) (body : Option (Binder → PlainTerm)) → (length (terms ts) == argument_count o) ≡ true
+op_read : (o : Op) (ts : PlainTerms) (cast_term : Option PlainTerm) (body : Option (Binder → PlainTerm)) → suits o (terms ts) ≡ true
     → term_of_parts (word_of o) (Some (terms ts)) cast_term body ≡ Some (app (op o) ts)
 op_read o ts cast_term body h =
     let p = op_no_name o in
@@ -171,7 +314,7 @@ mutual
   term_back (truth true) h = ap (λ (b : Bool). if b then Some (var (codes "true")) else Some (truth true)) true_no_name
   term_back (truth false) h = ap (λ (b : Bool). if b then Some (var (codes "false")) else Some (truth false)) false_no_name
   term_back (app (op o) ts) h =
-      let r = and_parts (length (terms ts) == argument_count o) (are_spelled_terms ts) h in
+      let r = and_parts (suits o (terms ts)) (are_spelled_terms ts) h in
       ap (λ (us : Option (List PlainTerm)). term_of_parts (word_of o) us (spelled_cast (term_spellings ts)) (spelled_body (term_spellings ts))) (terms_back ts r.1)
       ∙ op_read o ts (spelled_cast (term_spellings ts)) (spelled_body (term_spellings ts)) r.0
   term_back (app (call f) ts) h =
@@ -207,10 +350,10 @@ mutual
       let q = terms_back ts r.1 in
       λ i. p i >>= λ x. option_map (λ xs. x ∷ xs) (q i)
 
-allowed_head : (h : PlainHead) (n : ℕ) → is_spelled_head h n ≡ true → is_allowed_head h ≡ true
-allowed_head (op o) n p = refl
-allowed_head (call f) n p = refl
-allowed_head (cast s) n p = (spelled_parts s (and_parts (n == 1) (is_spelled_sort s) p).1).0
+allowed_head : (h : PlainHead) (ts : List PlainTerm) → is_spelled_head h ts ≡ true → is_allowed_head h ≡ true
+allowed_head (op o) ts p = refl
+allowed_head (call f) ts p = refl
+allowed_head (cast s) ts p = (spelled_parts s (and_parts (length ts == 1) (is_spelled_sort s) p).1).0
 
 mutual
   allowed_back : (t : PlainTerm) → is_spelled_term t ≡ true → casts_are_allowed t ≡ true
@@ -218,8 +361,8 @@ mutual
   allowed_back (number n) h = refl
   allowed_back (truth b) h = refl
   allowed_back (app g ts) h =
-      let r = and_parts (is_spelled_head g (length (terms ts))) (are_spelled_terms ts) h in
-      and_both (is_allowed_head g) (all_casts_are_allowed ts) (allowed_head g (length (terms ts)) r.0) (all_allowed_back ts r.1)
+      let r = and_parts (is_spelled_head g (terms ts)) (are_spelled_terms ts) h in
+      and_both (is_allowed_head g) (all_casts_are_allowed ts) (allowed_head g (terms ts) r.0) (all_allowed_back ts r.1)
   allowed_back (bind b x s t) h =
       let r = and_parts (is_name x && is_spelled_term s) (is_spelled_term t) h in
       let q = and_parts (is_name x) (is_spelled_term s) r.0 in

@@ -13,8 +13,8 @@ use Rattle.kid_codec.specs.Name.{is_name}
 use Rattle.kid_codec.specs.Number.{number_of}
 use Rattle.kid_codec.specs.Reading.{◌>>=◌}
 use Rattle.kid_codec.specs.SortSpelling.{sort_spelling, is_spelled_sort, spelled_sort}
-use Rattle.kid_codec.specs.TermSpelling.{term_spelling, term_spellings, is_spelled_term, are_spelled_terms, casts_are_allowed, all_casts_are_allowed, applied, called, casted, operated, headed_by, term_of_parts, body_of, spelled_name, atom_term, spelled_term, spelled_list, spelled_terms, spelled_cast, spelled_body}
-use Rattle.kid_codec.specs.Word.{word_of, binder_word, op_of, binder_of, argument_count}
+use Rattle.kid_codec.specs.TermSpelling.{term_spelling, term_spellings, is_spelled_term, are_spelled_terms, casts_are_allowed, all_casts_are_allowed, applied, suits, called, casted, operated, headed_by, term_of_parts, body_of, spelled_name, atom_term, spelled_term, spelled_list, spelled_terms, spelled_cast, spelled_body}
+use Rattle.kid_codec.specs.Word.{word_of, binder_word, op_of, binder_of}
 use Rattle.kid_codec.proofs.Numbers.{bytes_eq-true}
 use Rattle.kid_codec.proofs.Found.{same_some, if_some, if_else, mapped, both_some, bind_some, number_from}
 use Rattle.kid_codec.proofs.Words.{op_of-told, binder_of-told}
@@ -80,13 +80,13 @@ op_told : (w : List ℕ) (ts : Plains) (o : Op) (u : PlainTerm) → TellsTerms t
 op_told w ts o u f q p h =
     let m = bind_some (spelled_terms ts) (applied o) u p in
     let us : List PlainTerm = m.0 in
-    let r = if_some (length us == argument_count o) (Some (app (op o) (term_row us))) u m.2 in
+    let r = if_some (suits o us) (Some (app (op o) (term_row us))) u m.2 in
     let s = same_some (app (op o) (term_row us)) u r.1 in
     let k = f us m.1 (ap casts_are_allowed s ∙ h) in
     let e = k.trees in
-    let c : (length (terms (term_row us)) == argument_count o) ≡ true = ap (λ (l : List PlainTerm). length l == argument_count o) (terms_row us) ∙ r.0 in
+    let c : suits o (terms (term_row us)) ≡ true = ap (suits o) (terms_row us) ∙ r.0 in
     subst (TermTold (list (tree.more (atom w) ts))) s
-    (record { tree = λ i. list (tree.more (atom (q i)) (e i)); spelled = and_both (length (terms (term_row us)) == argument_count o) (are_spelled_terms (term_row us)) c k.spelled })
+    (record { tree = λ i. list (tree.more (atom (q i)) (e i)); spelled = and_both (suits o (terms (term_row us))) (are_spelled_terms (term_row us)) c k.spelled })
 
 head_told : (w : List ℕ) (ts : Plains) (u : PlainTerm) (b : Option Binder) (o : Option Op) → binder_of w ≡ b → op_of w ≡ o → TellsTerms ts → TellsBody ts
     → headed_by b o (spelled_terms ts) (spelled_body ts) ≡ Some u → casts_are_allowed u ≡ true → TermTold (list (tree.more (atom w) ts)) u

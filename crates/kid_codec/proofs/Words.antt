@@ -5,8 +5,13 @@ use Rattle.kid_codec.specs.declared.word.TheConstants.{OPERATORS, BINDERS}
 use Rattle.kid_codec.proofs.Found.{first_with-word}
 use Rattle.kid_term.specs.declared.operator.LogicOp.TheVariants as logic
 use Rattle.kid_term.specs.declared.operator.NumberOp.TheVariants as num
+use Rattle.kid_term.specs.declared.operator.PairOp.TheVariants as pair_op
+use Rattle.kid_term.specs.declared.operator.SetOp.TheVariants as set_op
+use Rattle.kid_term.specs.declared.operator.SeqOp.TheVariants as seq_op
+use Rattle.kid_term.specs.declared.operator.MapOp.TheVariants as map_op
+use Rattle.kid_term.specs.declared.operator.WordOp.TheVariants as word_op
 use Rattle.kid_term.specs.declared.operator.Op.{Op}
-use Rattle.kid_term.specs.declared.operator.Op.TheVariants.{Logic, Number}
+use Rattle.kid_term.specs.declared.operator.Op.TheVariants.{Logic, Number, Pair, Set, Seq, Map, Word}
 use Rattle.kid_term.specs.declared.operator.Binder.{Binder}
 use Rattle.kid_term.specs.declared.operator.Binder.TheVariants as binder
 use Rattle.kid_codec.specs.Word.{word_of, op_of, binder_word, binder_of}
@@ -29,6 +34,52 @@ op_of-word (Number num.Div) = refl
 op_of-word (Number num.Mod) = refl
 op_of-word (Number num.Min) = refl
 op_of-word (Number num.Max) = refl
+op_of-word (Pair pair_op.Pair) = refl
+op_of-word (Pair pair_op.Fst) = refl
+op_of-word (Pair pair_op.Snd) = refl
+op_of-word (Set set_op.Set) = refl
+op_of-word (Set set_op.Range) = refl
+op_of-word (Set set_op.In) = refl
+op_of-word (Set set_op.Subset) = refl
+op_of-word (Set set_op.Union) = refl
+op_of-word (Set set_op.With) = refl
+op_of-word (Set set_op.Inter) = refl
+op_of-word (Set set_op.Diff) = refl
+op_of-word (Set set_op.Without) = refl
+op_of-word (Set set_op.Card) = refl
+op_of-word (Set set_op.Sum) = refl
+op_of-word (Set set_op.Least) = refl
+op_of-word (Seq seq_op.Seq) = refl
+op_of-word (Seq seq_op.Len) = refl
+op_of-word (Seq seq_op.At) = refl
+op_of-word (Seq seq_op.Snoc) = refl
+op_of-word (Seq seq_op.Rest) = refl
+op_of-word (Seq seq_op.Items) = refl
+op_of-word (Seq seq_op.Total) = refl
+op_of-word (Seq seq_op.Prefix) = refl
+op_of-word (Map map_op.Map) = refl
+op_of-word (Map map_op.Dom) = refl
+op_of-word (Map map_op.Ran) = refl
+op_of-word (Map map_op.Get) = refl
+op_of-word (Map map_op.Put) = refl
+op_of-word (Map map_op.Drop) = refl
+op_of-word (Map map_op.Fill) = refl
+op_of-word (Map map_op.Submap) = refl
+op_of-word (Map map_op.Fits) = refl
+op_of-word (Map map_op.Narrow) = refl
+op_of-word (Word word_op.Wenc) = refl
+op_of-word (Word word_op.Wdec) = refl
+op_of-word (Word word_op.Wor) = refl
+op_of-word (Word word_op.Wand) = refl
+op_of-word (Word word_op.Wnot) = refl
+op_of-word (Word word_op.Wcard) = refl
+op_of-word (Word word_op.Win) = refl
+op_of-word (Word word_op.Wleast) = refl
+op_of-word (Word word_op.Renc) = refl
+op_of-word (Word word_op.Rdec) = refl
+op_of-word (Word word_op.Rget) = refl
+op_of-word (Word word_op.Rput) = refl
+op_of-word (Word word_op.Rdrop) = refl
 
 pub binder_of-word : (b : Binder) → binder_of (binder_word b) ≡ Some b
 unfolding binder_of

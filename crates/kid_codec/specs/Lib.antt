@@ -1,3 +1,4 @@
+pub mod DeclaredSpelling
 pub mod Name
 pub mod Number
 pub mod Word

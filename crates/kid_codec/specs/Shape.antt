@@ -24,3 +24,11 @@ couple none = None
 couple (more t none) = None
 couple (more t (more u none)) = Some (t, u)
 couple (more t (more u (more v vs))) = None
+
+abbrev pub quadruple : Plains → Option (Plain × Plain × Plain × Plain)
+quadruple none = None
+quadruple (more t none) = None
+quadruple (more t (more u none)) = None
+quadruple (more t (more u (more v none))) = None
+quadruple (more t (more u (more v (more w none)))) = Some (t, u, v, w)
+quadruple (more t (more u (more v (more w (more x xs))))) = None

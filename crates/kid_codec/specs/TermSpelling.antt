@@ -1,10 +1,11 @@
 -- Terms as trees.
-use Rattle.std.specs.Prelude.{ℕ, Bool, true, false, not, ◌&&◌, ◌==◌, List, [], ◌∷◌, length, Option, Some, None, option_map, if◌then◌else◌, codes, Result}
+use Rattle.std.specs.Prelude.{ℕ, zero, suc, is_some, Bool, true, false, not, ◌&&◌, ◌==◌, List, [], ◌∷◌, length, Option, Some, None, option_map, if◌then◌else◌, codes, Result}
 use Rattle.std.specs.Str.{bytes_eq}
 use Rattle.kid_sexp.specs.Plain as tree
 use Rattle.kid_sexp.specs.Plain.{Plain, Plains, atom, list, one, join}
 use Rattle.kid_value.specs.PlainSort.{PlainSort, both, in_limits, is_allowed}
 use Rattle.kid_term.specs.PlainTerm.{PlainHead, op, call, cast, PlainTerm, var, number, truth, app, bind, PlainTerms, no_term, term, terms, term_row}
+use Rattle.kid_term.specs.Written.{number_in}
 use Rattle.kid_term.specs.declared.operator.Op.{Op}
 use Rattle.kid_term.specs.declared.operator.Binder.{Binder}
 use Rattle.kid_codec.specs.Name.{is_name}
@@ -12,7 +13,7 @@ use Rattle.kid_codec.specs.Number.{number_of}
 use Rattle.kid_codec.specs.Reading.{judged, ◌>>=◌}
 use Rattle.kid_codec.specs.SortSpelling.{number_tree, headed, sort_spelling, is_spelled_sort, spelled_sort}
 use Rattle.kid_codec.specs.ValueSpelling.{truth_word}
-use Rattle.kid_codec.specs.Word.{word_of, binder_word, op_of, binder_of, argument_count}
+use Rattle.kid_codec.specs.Word.{word_of, binder_word, op_of, binder_of, takes, numbers_first}
 use Rattle.kid_codec.specs.declared.fault.CodecFault.{CodecFault}
 
 -- the trees of a head, which stand before those of its arguments
@@ -34,11 +35,21 @@ abbrev mutual
   term_spellings no_term = tree.none
   term_spellings (term t ts) = tree.more (term_spelling t) (term_spellings ts)
 
--- whether a head may stand before so many arguments
-abbrev pub is_spelled_head : PlainHead → ℕ → Bool
-is_spelled_head (op o) n = n == argument_count o
-is_spelled_head (call f) n = is_name f
-is_spelled_head (cast s) n = n == 1 && is_spelled_sort s
+-- whether the first few terms are numbers
+abbrev pub begin_with_numbers : ℕ → List PlainTerm → Bool
+begin_with_numbers zero ts = true
+begin_with_numbers (suc n) [] = false
+begin_with_numbers (suc n) (t ∷ ts) = is_some (number_in t) && begin_with_numbers n ts
+
+-- whether an operator may stand before the terms
+abbrev pub suits : Op → List PlainTerm → Bool
+suits o ts = takes o (length ts) && begin_with_numbers (numbers_first o) ts
+
+-- whether a head may stand before the terms
+abbrev pub is_spelled_head : PlainHead → List PlainTerm → Bool
+is_spelled_head (op o) ts = suits o ts
+is_spelled_head (call f) ts = is_name f
+is_spelled_head (cast s) ts = length ts == 1 && is_spelled_sort s
 
 -- the terms that have a spelling
 abbrev mutual
@@ -46,7 +57,7 @@ abbrev mutual
   is_spelled_term (var x) = is_name x
   is_spelled_term (number n) = in_limits n
   is_spelled_term (truth b) = true
-  is_spelled_term (app h ts) = is_spelled_head h (length (terms ts)) && are_spelled_terms ts
+  is_spelled_term (app h ts) = is_spelled_head h (terms ts) && are_spelled_terms ts
   is_spelled_term (bind b x s t) = is_name x && is_spelled_term s && is_spelled_term t
 
   pub are_spelled_terms : PlainTerms → Bool
@@ -79,9 +90,9 @@ atom_term w =
     else (if bytes_eq w (codes "false") then Some (truth false)
     else option_map number (number_of w)))
 
--- an operator at as many terms as it takes
+-- an operator at terms that it may stand before
 abbrev pub applied : Op → List PlainTerm → Option PlainTerm
-applied o ts = if length ts == argument_count o then Some (app (op o) (term_row ts)) else None
+applied o ts = if suits o ts then Some (app (op o) (term_row ts)) else None
 
 abbrev pub called : List ℕ → List PlainTerm → PlainTerm
 called f ts = app (call f) (term_row ts)

@@ -1,12 +1,22 @@
 -- The words of the operators and of the binders, and how many arguments an operator takes.
-use Rattle.std.specs.Prelude.{ℕ, Bool, List, [], ◌∷◌, Option, Some, None, if◌then◌else◌, codes, map}
+use Rattle.std.specs.Prelude.{ℕ, Bool, true, ◌==◌, List, [], ◌∷◌, Option, Some, None, if◌then◌else◌, codes, map}
 use Rattle.std.specs.Str.{bytes_eq}
 use Rattle.kid_term.specs.declared.operator.LogicOp.{LogicOp}
 use Rattle.kid_term.specs.declared.operator.LogicOp.TheVariants as logic
 use Rattle.kid_term.specs.declared.operator.NumberOp.{NumberOp}
 use Rattle.kid_term.specs.declared.operator.NumberOp.TheVariants as num
+use Rattle.kid_term.specs.declared.operator.PairOp.{PairOp}
+use Rattle.kid_term.specs.declared.operator.PairOp.TheVariants as pair_op
+use Rattle.kid_term.specs.declared.operator.SetOp.{SetOp}
+use Rattle.kid_term.specs.declared.operator.SetOp.TheVariants as set_op
+use Rattle.kid_term.specs.declared.operator.SeqOp.{SeqOp}
+use Rattle.kid_term.specs.declared.operator.SeqOp.TheVariants as seq_op
+use Rattle.kid_term.specs.declared.operator.MapOp.{MapOp}
+use Rattle.kid_term.specs.declared.operator.MapOp.TheVariants as map_op
+use Rattle.kid_term.specs.declared.operator.WordOp.{WordOp}
+use Rattle.kid_term.specs.declared.operator.WordOp.TheVariants as word_op
 use Rattle.kid_term.specs.declared.operator.Op.{Op}
-use Rattle.kid_term.specs.declared.operator.Op.TheVariants.{Logic, Number}
+use Rattle.kid_term.specs.declared.operator.Op.TheVariants.{Logic, Number, Pair, Set, Seq, Map, Word}
 use Rattle.kid_term.specs.declared.operator.Binder.{Binder}
 use Rattle.kid_term.specs.declared.operator.Binder.TheVariants as binder
 use Rattle.kid_codec.specs.declared.word.TheConstants.{OPERATORS, BINDERS}
@@ -31,9 +41,70 @@ number_word num.Mod = codes "mod"
 number_word num.Min = codes "min"
 number_word num.Max = codes "max"
 
+abbrev pub pair_word : PairOp → List ℕ
+pair_word pair_op.Pair = codes "pair"
+pair_word pair_op.Fst = codes "fst"
+pair_word pair_op.Snd = codes "snd"
+
+abbrev pub set_word : SetOp → List ℕ
+set_word set_op.Set = codes "set"
+set_word set_op.Range = codes "range"
+set_word set_op.In = codes "in"
+set_word set_op.Subset = codes "subset"
+set_word set_op.Union = codes "union"
+set_word set_op.With = codes "with"
+set_word set_op.Inter = codes "inter"
+set_word set_op.Diff = codes "diff"
+set_word set_op.Without = codes "without"
+set_word set_op.Card = codes "card"
+set_word set_op.Sum = codes "sum"
+set_word set_op.Least = codes "least"
+
+abbrev pub seq_word : SeqOp → List ℕ
+seq_word seq_op.Seq = codes "seq"
+seq_word seq_op.Len = codes "len"
+seq_word seq_op.At = codes "at"
+seq_word seq_op.Snoc = codes "snoc"
+seq_word seq_op.Rest = codes "rest"
+seq_word seq_op.Items = codes "items"
+seq_word seq_op.Total = codes "total"
+seq_word seq_op.Prefix = codes "prefix"
+
+abbrev pub map_word : MapOp → List ℕ
+map_word map_op.Map = codes "map"
+map_word map_op.Dom = codes "dom"
+map_word map_op.Ran = codes "ran"
+map_word map_op.Get = codes "get"
+map_word map_op.Put = codes "put"
+map_word map_op.Drop = codes "drop"
+map_word map_op.Fill = codes "fill"
+map_word map_op.Submap = codes "submap"
+map_word map_op.Fits = codes "fits"
+map_word map_op.Narrow = codes "narrow"
+
+abbrev pub row_word : WordOp → List ℕ
+row_word word_op.Wenc = codes "wenc"
+row_word word_op.Wdec = codes "wdec"
+row_word word_op.Wor = codes "wor"
+row_word word_op.Wand = codes "wand"
+row_word word_op.Wnot = codes "wnot"
+row_word word_op.Wcard = codes "wcard"
+row_word word_op.Win = codes "win"
+row_word word_op.Wleast = codes "wleast"
+row_word word_op.Renc = codes "renc"
+row_word word_op.Rdec = codes "rdec"
+row_word word_op.Rget = codes "rget"
+row_word word_op.Rput = codes "rput"
+row_word word_op.Rdrop = codes "rdrop"
+
 abbrev pub word_of : Op → List ℕ
 word_of (Logic o) = logic_word o
 word_of (Number o) = number_word o
+word_of (Pair o) = pair_word o
+word_of (Set o) = set_word o
+word_of (Seq o) = seq_word o
+word_of (Map o) = map_word o
+word_of (Word o) = row_word o
 
 abbrev pub binder_word : Binder → List ℕ
 binder_word binder.All = codes "all"
@@ -55,19 +126,72 @@ op_of w = first_with word_of OPERATORS w
 unfoldable pub binder_of : List ℕ → Option Binder
 binder_of w = first_with binder_word BINDERS w
 
-abbrev pub logic_arguments : LogicOp → ℕ
-logic_arguments logic.Not = 1
-logic_arguments logic.And = 2
-logic_arguments logic.Or = 2
-logic_arguments logic.Implies = 2
-logic_arguments logic.If = 3
-logic_arguments logic.Eq = 2
+-- whether an operator takes so many arguments
+abbrev pub logic_takes : LogicOp → ℕ → Bool
+logic_takes logic.Not n = n == 1
+logic_takes logic.If n = n == 3
+logic_takes o n = n == 2
 
-abbrev pub number_arguments : NumberOp → ℕ
-number_arguments num.Neg = 1
-number_arguments o = 2
+abbrev pub number_takes : NumberOp → ℕ → Bool
+number_takes num.Neg n = n == 1
+number_takes o n = n == 2
 
--- how many arguments an operator takes
-abbrev pub argument_count : Op → ℕ
-argument_count (Logic o) = logic_arguments o
-argument_count (Number o) = number_arguments o
+abbrev pub pair_takes : PairOp → ℕ → Bool
+pair_takes pair_op.Pair n = n == 2
+pair_takes o n = n == 1
+
+abbrev pub set_takes : SetOp → ℕ → Bool
+set_takes set_op.Set n = true
+set_takes set_op.Card n = n == 1
+set_takes set_op.Sum n = n == 1
+set_takes o n = n == 2
+
+abbrev pub seq_takes : SeqOp → ℕ → Bool
+seq_takes seq_op.Seq n = true
+seq_takes seq_op.Len n = n == 1
+seq_takes seq_op.Items n = n == 1
+seq_takes seq_op.Total n = n == 1
+seq_takes seq_op.At n = n == 3
+seq_takes o n = n == 2
+
+abbrev pub map_takes : MapOp → ℕ → Bool
+map_takes map_op.Map n = n == 0
+map_takes map_op.Dom n = n == 1
+map_takes map_op.Ran n = n == 1
+map_takes map_op.Get n = n == 3
+map_takes map_op.Put n = n == 3
+map_takes o n = n == 2
+
+abbrev pub row_takes : WordOp → ℕ → Bool
+row_takes word_op.Wcard n = n == 1
+row_takes word_op.Wor n = n == 2
+row_takes word_op.Wand n = n == 2
+row_takes word_op.Wnot n = n == 2
+row_takes word_op.Rdec n = n == 2
+row_takes word_op.Rget n = n == 4
+row_takes word_op.Rput n = n == 4
+row_takes o n = n == 3
+
+abbrev pub takes : Op → ℕ → Bool
+takes (Logic o) n = logic_takes o n
+takes (Number o) n = number_takes o n
+takes (Pair o) n = pair_takes o n
+takes (Set o) n = set_takes o n
+takes (Seq o) n = seq_takes o n
+takes (Map o) n = map_takes o n
+takes (Word o) n = row_takes o n
+
+-- how many arguments of an operator, which stand first, are written as numbers
+abbrev pub row_numbers : WordOp → ℕ
+row_numbers word_op.Wenc = 2
+row_numbers word_op.Wdec = 2
+row_numbers word_op.Renc = 2
+row_numbers word_op.Wor = 0
+row_numbers word_op.Wand = 0
+row_numbers word_op.Wnot = 0
+row_numbers word_op.Wcard = 0
+row_numbers o = 1
+
+abbrev pub numbers_first : Op → ℕ
+numbers_first (Word o) = row_numbers o
+numbers_first o = 0

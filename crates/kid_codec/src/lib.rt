@@ -21,4 +21,4 @@ pub use print::{sort_tree, term_tree, value_tree};
 pub use sort::{sort_from, spelled_sort};
 pub use term::{spelled_name, spelled_term, term_of};
 pub use value::value_of;
-pub use word::{argument_count, binder_of, binder_word, op_of, word_of};
+pub use word::{binder_of, binder_word, op_of, takes, word_of};

@@ -222,8 +222,8 @@ fn terms_tree(alloc: Global, mut trees: Forest, terms: &[Term]) -> Result<Tree, 
 }
 
 /// The tree of a term, which reads back to it. The names in the term are names, its integers lie within plus or minus
-/// 4611686018427387904, its operators stand before as many arguments as they take, and it casts one term each to a sort
-/// that is allowed and holds no `Never`.
+/// 4611686018427387904, its operators stand before as many arguments as they take, with literals where they take numbers that
+/// are written, and it casts one term each to a sort that is allowed and holds no `Never`.
 ///
 /// # Errors
 ///

@@ -1,7 +1,7 @@
 //! Forms, and lists of so many trees. No call takes memory.
 ghost use Rattle.std.specs.Prelude.{◌≡◌, option_map};
 ghost use Rattle.kid_sexp.specs.Tree.{plain, plains};
-ghost use Rattle.kid_codec.specs.Shape.{is_atom, form, single, couple};
+ghost use Rattle.kid_codec.specs.Shape.{is_atom, form, single, couple, quadruple};
 
 use kid_sexp::Tree;
 
@@ -50,6 +50,17 @@ pub fn couple(trees: &[Tree]) -> Option<(&Tree, &Tree)>
 {
     match trees {
         [first, second] => Some((first, second)),
+        _ => None,
+    }
+}
+
+/// The trees of a list of four, and None where there are more or fewer.
+#[tactic(auto, using(crate::proofs::Shapes::shapes))]
+pub fn quadruple(trees: &[Tree]) -> Option<(&Tree, &Tree, &Tree, &Tree)>
+    ensures { option_map (λ q. (plain q.0.now, plain q.1.now, plain q.2.now, plain q.3.now)) result ≡ quadruple (plains trees.now) }
+{
+    match trees {
+        [first, second, third, fourth] => Some((first, second, third, fourth)),
         _ => None,
     }
 }

@@ -1,18 +1,19 @@
-ghost use Rattle.std.specs.Prelude.{◌≡◌, true, IfOk, option_map, map};
+ghost use Rattle.std.specs.Prelude.{◌≡◌, true, IfOk, is_some, option_map, map};
 ghost use Rattle.kid_sexp.specs.Tree.{plain, plains};
 ghost use Rattle.kid_term.specs.PlainTerm.{term_row};
 ghost use Rattle.kid_value.specs.PlainSort.{both};
 ghost use Rattle.kid_term.specs.TermView.{plain_term, plain_head};
+ghost use Rattle.kid_term.specs.Written.{number_in};
 ghost use Rattle.kid_codec.specs.Reading.{Gives, Finds};
 ghost use Rattle.kid_codec.specs.SortSpelling.{spelled_sort as spelled_sort_of};
-ghost use Rattle.kid_codec.specs.TermSpelling.{atom_term, applied, term_of_parts, spelled_name, spelled_term, spelled_list, spelled_terms, spelled_cast, casted, body_of, spelled_body, is_allowed_head, casts_are_allowed, all_casts_are_allowed, term_spelling, is_spelled_term, term_reading};
+ghost use Rattle.kid_codec.specs.TermSpelling.{atom_term, applied, suits, begin_with_numbers, term_of_parts, spelled_name, spelled_term, spelled_list, spelled_terms, spelled_cast, casted, body_of, spelled_body, is_allowed_head, casts_are_allowed, all_casts_are_allowed, term_spelling, is_spelled_term, term_reading};
 
 use crate::fault::CodecFault;
 use crate::name::is_name;
 use crate::number::number_of;
 use crate::parts::{couple, triple};
 use crate::sort::spelled_sort;
-use crate::word::{argument_count, binder_of, op_of};
+use crate::word::{binder_of, numbers_first, op_of, takes};
 use kid_sexp::Tree;
 use kid_term::{Binder, BoxedTerm, Head, Literal, Op, Term, Terms};
 use kid_value::{Text, sort_ok};
@@ -54,10 +55,38 @@ pub fn spelled_name(alloc: Global, tree: &Tree) -> Result<Text, CodecFault>
     }
 }
 
+fn is_number(term: &Term) -> bool
+    ensures { result ≡ is_some (number_in (plain_term term.now)) }
+{
+    match term {
+        Term::Lit(Literal::Int(_)) => true,
+        _ => false,
+    }
+}
+
+fn begin_with_numbers(count: usize, terms: &[Term]) -> bool
+    ensures { result ≡ begin_with_numbers count (map plain_term terms.now) }
+{
+    if count == 0 {
+        return true;
+    }
+    match terms.split_first() {
+        Some((first, rest)) => is_number(first) && begin_with_numbers(count - 1, rest),
+        None => false,
+    }
+}
+
+/// Whether an operator may stand before the terms: as many as it takes, of which the first few are numbers.
+fn suits(op: Op, terms: &[Term]) -> bool
+    ensures { result ≡ suits op (map plain_term terms.now) }
+{
+    takes(op, terms.len()) && begin_with_numbers(numbers_first(op), terms)
+}
+
 fn applied(op: Op, terms: Terms) -> Result<Term, CodecFault>
     ensures { Finds plain_term result (applied op terms) }
 {
-    if terms.len() == argument_count(op) {
+    if suits(op, terms.items()) {
         Ok(Term::App(Head::Op(op), terms))
     } else {
         Err(CodecFault::Form)
@@ -211,7 +240,8 @@ fn all_casts_are_allowed(terms: &[Term]) -> bool
 ///
 /// # Errors
 ///
-/// `Form`: the tree has no such shape, as where an operator has another number of arguments than it takes. `Sort`: it has,
+/// `Form`: the tree has no such shape, as where an operator has a number of arguments that it does not take, or another term
+/// where it takes a number that is written. `Sort`: it has,
 /// and a sort of a cast is not allowed. `Memory`: memory is wanting.
 pub fn term_of(alloc: Global, tree: &Tree) -> Result<Term, CodecFault>
     ensures reading { Gives plain_term result (term_reading (plain tree.now)) }

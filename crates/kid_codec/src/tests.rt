@@ -184,3 +184,95 @@ fn reads_terms_back(rt: HostRuntime) -> Result<(), Fail> {
     }
     Ok(())
 }
+
+#[test]
+fn reads_operators_back(rt: HostRuntime) -> Result<(), Fail> {
+    let terms = [
+        "(pair (fst p) (snd p))\n",
+        "(set)\n",
+        "(set 1 2)\n",
+        "(range (card s) (sum s))\n",
+        "(and (in 1 s) (subset s t))\n",
+        "(union (inter s t) (diff s t))\n",
+        "(with (least s 0) (without 1 s))\n",
+        "(seq)\n",
+        "(seq 3 1 3)\n",
+        "(snoc (rest v (len v)) (at v 1 0))\n",
+        "(or (prefix v w) (in (total v) (items v)))\n",
+        "(map)\n",
+        "(put (drop m x) x (get m x 0))\n",
+        "(fill (union (dom m) (ran m)) true)\n",
+        "(implies (fits m n) (submap (narrow m n) n))\n",
+    ];
+    for want in terms {
+        let term = term_of(rt.alloc(), &tree(rt.alloc(), want)?)?;
+        let printed = text(rt.alloc(), term_tree(rt.alloc(), &term)?)?;
+        assert_eq!(rt; printed.as_slice(), want.as_bytes(), "at {want}");
+    }
+    let refused = [
+        "(pair x)",
+        "(fst p q)",
+        "(range 1)",
+        "(card)",
+        "(at v 1)",
+        "(total v w)",
+        "(rest v)",
+        "(map x)",
+        "(get m x)",
+        "(narrow m n x)",
+        "set",
+    ];
+    for term in refused {
+        assert_eq!(rt;
+            term_of(rt.alloc(), &tree(rt.alloc(), term)?).err(),
+            Some(CodecFault::Form),
+            "at {term}"
+        );
+    }
+    Ok(())
+}
+
+#[test]
+fn reads_operators_on_words_and_rows_back(rt: HostRuntime) -> Result<(), Fail> {
+    let terms = [
+        "(wenc 1 40 (set 3))\n",
+        "(wdec -5 3 r)\n",
+        "(wor (wand r s) (wnot s r))\n",
+        "(add (wcard r) (wleast 1 (f x) r))\n",
+        "(win 0 (add x 1) r)\n",
+        "(renc 1 4097 (map))\n",
+        "(rdec -4611686018427387904 g)\n",
+        "(rget 1 (rput 1 (rdrop 1 g x) y 3) z 0)\n",
+        "(image x (wdec 1 63 r) (wcard x))\n",
+    ];
+    for want in terms {
+        let term = term_of(rt.alloc(), &tree(rt.alloc(), want)?)?;
+        let printed = text(rt.alloc(), term_tree(rt.alloc(), &term)?)?;
+        assert_eq!(rt; printed.as_slice(), want.as_bytes(), "at {want}");
+    }
+    let refused = [
+        "(wdec (add 1 0) 40 5)",
+        "(wdec 1 k 5)",
+        "(wenc lo 40 s)",
+        "(wenc 1 true s)",
+        "(wenc 1 40)",
+        "(wor r)",
+        "(wcard r r)",
+        "(win lo 1 r)",
+        "(wleast (neg 1) 0 r)",
+        "(renc 1 (cast (int 2 1) x) m)",
+        "(rdec lo g)",
+        "(rget g 1 x 0)",
+        "(rput 1 g x)",
+        "(rdrop x g x)",
+        "wenc",
+    ];
+    for term in refused {
+        assert_eq!(rt;
+            term_of(rt.alloc(), &tree(rt.alloc(), term)?).err(),
+            Some(CodecFault::Form),
+            "at {term}"
+        );
+    }
+    Ok(())
+}

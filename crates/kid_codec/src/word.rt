@@ -1,12 +1,12 @@
 //! The words of the operators and of the binders.
 ghost use Rattle.std.specs.Prelude.{◌≡◌, Some, IfSome};
-ghost use Rattle.kid_codec.specs.Word.{logic_word, number_word, word_of, binder_word, first_with, op_of, binder_of, logic_arguments, number_arguments, argument_count};
+ghost use Rattle.kid_codec.specs.Word.{logic_word, number_word, pair_word, set_word, seq_word, map_word, row_word, word_of, binder_word, first_with, op_of, binder_of, logic_takes, number_takes, pair_takes, set_takes, seq_takes, map_takes, row_takes, takes, row_numbers, numbers_first};
 
-use kid_term::{Binder, LogicOp, NumberOp, Op};
+use kid_term::{Binder, LogicOp, MapOp, NumberOp, Op, PairOp, SeqOp, SetOp, WordOp};
 use kid_value::Text;
 
 /// Each operator.
-pub const OPERATORS: [Op; 16] = [
+pub const OPERATORS: [Op; 62] = [
     Op::Logic(LogicOp::Not),
     Op::Logic(LogicOp::And),
     Op::Logic(LogicOp::Or),
@@ -23,6 +23,52 @@ pub const OPERATORS: [Op; 16] = [
     Op::Number(NumberOp::Mod),
     Op::Number(NumberOp::Min),
     Op::Number(NumberOp::Max),
+    Op::Pair(PairOp::Pair),
+    Op::Pair(PairOp::Fst),
+    Op::Pair(PairOp::Snd),
+    Op::Set(SetOp::Set),
+    Op::Set(SetOp::Range),
+    Op::Set(SetOp::In),
+    Op::Set(SetOp::Subset),
+    Op::Set(SetOp::Union),
+    Op::Set(SetOp::With),
+    Op::Set(SetOp::Inter),
+    Op::Set(SetOp::Diff),
+    Op::Set(SetOp::Without),
+    Op::Set(SetOp::Card),
+    Op::Set(SetOp::Sum),
+    Op::Set(SetOp::Least),
+    Op::Seq(SeqOp::Seq),
+    Op::Seq(SeqOp::Len),
+    Op::Seq(SeqOp::At),
+    Op::Seq(SeqOp::Snoc),
+    Op::Seq(SeqOp::Rest),
+    Op::Seq(SeqOp::Items),
+    Op::Seq(SeqOp::Total),
+    Op::Seq(SeqOp::Prefix),
+    Op::Map(MapOp::Map),
+    Op::Map(MapOp::Dom),
+    Op::Map(MapOp::Ran),
+    Op::Map(MapOp::Get),
+    Op::Map(MapOp::Put),
+    Op::Map(MapOp::Drop),
+    Op::Map(MapOp::Fill),
+    Op::Map(MapOp::Submap),
+    Op::Map(MapOp::Fits),
+    Op::Map(MapOp::Narrow),
+    Op::Word(WordOp::Wenc),
+    Op::Word(WordOp::Wdec),
+    Op::Word(WordOp::Wor),
+    Op::Word(WordOp::Wand),
+    Op::Word(WordOp::Wnot),
+    Op::Word(WordOp::Wcard),
+    Op::Word(WordOp::Win),
+    Op::Word(WordOp::Wleast),
+    Op::Word(WordOp::Renc),
+    Op::Word(WordOp::Rdec),
+    Op::Word(WordOp::Rget),
+    Op::Word(WordOp::Rput),
+    Op::Word(WordOp::Rdrop),
 ];
 
 /// Each binder.
@@ -64,6 +110,87 @@ fn number_word(op: NumberOp) -> &'static [u8]
     }
 }
 
+fn pair_word(op: PairOp) -> &'static [u8]
+    ensures { result.now ≡ pair_word op }
+{
+    match op {
+        PairOp::Pair => b"pair",
+        PairOp::Fst => b"fst",
+        PairOp::Snd => b"snd",
+    }
+}
+
+fn set_word(op: SetOp) -> &'static [u8]
+    ensures { result.now ≡ set_word op }
+{
+    match op {
+        SetOp::Set => b"set",
+        SetOp::Range => b"range",
+        SetOp::In => b"in",
+        SetOp::Subset => b"subset",
+        SetOp::Union => b"union",
+        SetOp::With => b"with",
+        SetOp::Inter => b"inter",
+        SetOp::Diff => b"diff",
+        SetOp::Without => b"without",
+        SetOp::Card => b"card",
+        SetOp::Sum => b"sum",
+        SetOp::Least => b"least",
+    }
+}
+
+fn seq_word(op: SeqOp) -> &'static [u8]
+    ensures { result.now ≡ seq_word op }
+{
+    match op {
+        SeqOp::Seq => b"seq",
+        SeqOp::Len => b"len",
+        SeqOp::At => b"at",
+        SeqOp::Snoc => b"snoc",
+        SeqOp::Rest => b"rest",
+        SeqOp::Items => b"items",
+        SeqOp::Total => b"total",
+        SeqOp::Prefix => b"prefix",
+    }
+}
+
+fn map_word(op: MapOp) -> &'static [u8]
+    ensures { result.now ≡ map_word op }
+{
+    match op {
+        MapOp::Map => b"map",
+        MapOp::Dom => b"dom",
+        MapOp::Ran => b"ran",
+        MapOp::Get => b"get",
+        MapOp::Put => b"put",
+        MapOp::Drop => b"drop",
+        MapOp::Fill => b"fill",
+        MapOp::Submap => b"submap",
+        MapOp::Fits => b"fits",
+        MapOp::Narrow => b"narrow",
+    }
+}
+
+fn row_word(op: WordOp) -> &'static [u8]
+    ensures { result.now ≡ row_word op }
+{
+    match op {
+        WordOp::Wenc => b"wenc",
+        WordOp::Wdec => b"wdec",
+        WordOp::Wor => b"wor",
+        WordOp::Wand => b"wand",
+        WordOp::Wnot => b"wnot",
+        WordOp::Wcard => b"wcard",
+        WordOp::Win => b"win",
+        WordOp::Wleast => b"wleast",
+        WordOp::Renc => b"renc",
+        WordOp::Rdec => b"rdec",
+        WordOp::Rget => b"rget",
+        WordOp::Rput => b"rput",
+        WordOp::Rdrop => b"rdrop",
+    }
+}
+
 /// The word of an operator. Reading it gives the operator back.
 pub fn word_of(op: Op) -> &'static [u8]
     ensures word { result.now ≡ word_of op }
@@ -72,6 +199,11 @@ pub fn word_of(op: Op) -> &'static [u8]
     match op {
         Op::Logic(op) => logic_word(op),
         Op::Number(op) => number_word(op),
+        Op::Pair(op) => pair_word(op),
+        Op::Set(op) => set_word(op),
+        Op::Seq(op) => seq_word(op),
+        Op::Map(op) => map_word(op),
+        Op::Word(op) => row_word(op),
     }
 }
 
@@ -135,31 +267,108 @@ pub fn binder_of(word: &Text) -> Option<Binder>
     binder_among(&BINDERS, word)
 }
 
-fn logic_arguments(op: LogicOp) -> usize
-    ensures { result ≡ logic_arguments op }
+fn logic_takes(op: LogicOp, count: usize) -> bool
+    ensures { result ≡ logic_takes op count }
 {
     match op {
-        LogicOp::Not => 1,
-        LogicOp::And | LogicOp::Or | LogicOp::Implies | LogicOp::Eq => 2,
-        LogicOp::If => 3,
+        LogicOp::Not => count == 1,
+        LogicOp::If => count == 3,
+        _ => count == 2,
     }
 }
 
-fn number_arguments(op: NumberOp) -> usize
-    ensures { result ≡ number_arguments op }
+fn number_takes(op: NumberOp, count: usize) -> bool
+    ensures { result ≡ number_takes op count }
 {
     match op {
-        NumberOp::Neg => 1,
-        _ => 2,
+        NumberOp::Neg => count == 1,
+        _ => count == 2,
     }
 }
 
-/// How many arguments an operator takes.
-pub fn argument_count(op: Op) -> usize
-    ensures { result ≡ argument_count op }
+fn pair_takes(op: PairOp, count: usize) -> bool
+    ensures { result ≡ pair_takes op count }
 {
     match op {
-        Op::Logic(op) => logic_arguments(op),
-        Op::Number(op) => number_arguments(op),
+        PairOp::Pair => count == 2,
+        PairOp::Fst | PairOp::Snd => count == 1,
+    }
+}
+
+fn set_takes(op: SetOp, count: usize) -> bool
+    ensures { result ≡ set_takes op count }
+{
+    match op {
+        SetOp::Set => true,
+        SetOp::Card | SetOp::Sum => count == 1,
+        _ => count == 2,
+    }
+}
+
+fn seq_takes(op: SeqOp, count: usize) -> bool
+    ensures { result ≡ seq_takes op count }
+{
+    match op {
+        SeqOp::Seq => true,
+        SeqOp::Len | SeqOp::Items | SeqOp::Total => count == 1,
+        SeqOp::At => count == 3,
+        _ => count == 2,
+    }
+}
+
+fn map_takes(op: MapOp, count: usize) -> bool
+    ensures { result ≡ map_takes op count }
+{
+    match op {
+        MapOp::Map => count == 0,
+        MapOp::Dom | MapOp::Ran => count == 1,
+        MapOp::Get | MapOp::Put => count == 3,
+        _ => count == 2,
+    }
+}
+
+fn row_takes(op: WordOp, count: usize) -> bool
+    ensures { result ≡ row_takes op count }
+{
+    match op {
+        WordOp::Wcard => count == 1,
+        WordOp::Wor | WordOp::Wand | WordOp::Wnot | WordOp::Rdec => count == 2,
+        WordOp::Rget | WordOp::Rput => count == 4,
+        _ => count == 3,
+    }
+}
+
+/// Whether an operator takes so many arguments. `set` and `seq` take any number, and each other operator one number only.
+pub fn takes(op: Op, count: usize) -> bool
+    ensures { result ≡ takes op count }
+{
+    match op {
+        Op::Logic(op) => logic_takes(op, count),
+        Op::Number(op) => number_takes(op, count),
+        Op::Pair(op) => pair_takes(op, count),
+        Op::Set(op) => set_takes(op, count),
+        Op::Seq(op) => seq_takes(op, count),
+        Op::Map(op) => map_takes(op, count),
+        Op::Word(op) => row_takes(op, count),
+    }
+}
+
+fn row_numbers(op: WordOp) -> usize
+    ensures { result ≡ row_numbers op }
+{
+    match op {
+        WordOp::Wenc | WordOp::Wdec | WordOp::Renc => 2,
+        WordOp::Wor | WordOp::Wand | WordOp::Wnot | WordOp::Wcard => 0,
+        _ => 1,
+    }
+}
+
+/// How many arguments of an operator, which stand first, are written as numbers.
+pub fn numbers_first(op: Op) -> usize
+    ensures { result ≡ numbers_first op }
+{
+    match op {
+        Op::Word(op) => row_numbers(op),
+        _ => 0,
     }
 }

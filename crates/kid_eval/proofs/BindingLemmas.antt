@@ -96,8 +96,8 @@ union-last : (front ys : List PlainValue) (v : PlainValue) → union (front ++ v
 union-last [] ys v = refl
 union-last (x ∷ front) ys v = ap (put x) (union-last front ys v)
 
-pub image_step : (all front : List Value) (v : Value) (ys : List PlainValue) → all ≡ front ++ v ∷ [] → union (map plain all) ys ≡ union (map plain front) (put (plain v) ys)
-image_step all front v ys e = ap (λ z. union z ys) (ap (map plain) e ∙ map-append plain front (v ∷ [])) ∙ union-last (map plain front) ys (plain v)
+pub union_step : {X : Type 0} (f : X → PlainValue) (all front : List X) (v : X) (ys : List PlainValue) → all ≡ front ++ v ∷ [] → union (map f all) ys ≡ union (map f front) (put (f v) ys)
+union_step f all front v ys e = ap (λ z. union z ys) (ap (map f) e ∙ map-append f front (v ∷ [])) ∙ union-last (map f front) ys (f v)
 
 pub all_found : (g : PlainValue → Bool) (vs : List PlainValue) → not (is_found false (map g vs)) ≡ list_all g vs
 all_found g [] = refl

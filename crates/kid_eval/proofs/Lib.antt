@@ -3,3 +3,5 @@ pub mod EnvLemmas
 pub mod LogicLemmas
 pub mod OpeningLemmas
 pub mod SmallLemmas
+pub mod SumLemmas
+pub mod WordLemmas

@@ -13,11 +13,10 @@ ghost use Rattle.kid_eval.specs.Inside.{value_in, values_in, value_with, small_i
 use crate::binder::{image, is_true, kept, members, total};
 use crate::cast::cast;
 use crate::env::Env;
-use crate::logic::logic_row;
-use crate::number::number_row;
 use crate::opened::opened;
+use crate::row::row;
 use crate::scope::{Scope, Seen, lent, seen_value};
-use kid_term::{Binder, Def, Defs, Head, Literal, Op, Term};
+use kid_term::{Binder, Def, Defs, Head, Literal, Term};
 use kid_value::{Memory, Text, Value};
 use std::alloc::Global;
 
@@ -54,8 +53,7 @@ fn value_of<'a>(
         Term::App(head, args) => {
             let values = see_all(alloc, defs, scope, args.items())?;
             match head {
-                Head::Op(Op::Logic(op)) => logic_row(alloc, *op, values),
-                Head::Op(Op::Number(op)) => Ok(number_row(*op, &values)),
+                Head::Op(op) => row(alloc, *op, values),
                 // Lent anew, as the values live less long than the definitions.
                 Head::Call(f) => call(alloc, &*defs, f, &values),
                 Head::Cast(sort) => cast(alloc, sort, values),

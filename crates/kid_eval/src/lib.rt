@@ -6,11 +6,17 @@ mod cast;
 mod env;
 mod evaluate;
 mod logic;
+mod map;
 mod number;
 mod opened;
+mod pair;
+mod row;
 mod scope;
+mod seq;
+mod set;
 #[cfg(test)]
 mod tests;
+mod word;
 
 pub use env::Env;
 pub use evaluate::eval;

@@ -6,8 +6,9 @@ ghost use Rattle.kid_eval.specs.ScopeView.{plain_seen};
 ghost use Rattle.kid_eval.specs.Truth.{truth_in};
 
 use crate::scope::{Seen, into_owned, seen_value};
+use kid_ops::logic;
 use kid_term::LogicOp;
-use kid_value::{Memory, Value, cmp};
+use kid_value::{Memory, Value};
 use std::alloc::Global;
 
 /// What an operator on truth values gives, and false at arguments of another kind or count.
@@ -29,7 +30,7 @@ fn of_one(op: LogicOp, p: &Value) -> Value
     ensures { plain result ≡ logic_value op (plain p.now ∷ []) }
 {
     match (op, p) {
-        (LogicOp::Not, Value::Bool(p)) => Value::Bool(!*p),
+        (LogicOp::Not, Value::Bool(p)) => Value::Bool(logic::not(*p)),
         _ => Value::Bool(false),
     }
 }
@@ -38,10 +39,10 @@ fn of_two(op: LogicOp, p: &Value, q: &Value) -> Value
     ensures { plain result ≡ logic_value op (plain p.now ∷ plain q.now ∷ []) }
 {
     match (op, p, q) {
-        (LogicOp::Eq, x, y) => Value::Bool(cmp(x, y).is_eq()),
-        (LogicOp::And, Value::Bool(p), Value::Bool(q)) => Value::Bool(*p && *q),
-        (LogicOp::Or, Value::Bool(p), Value::Bool(q)) => Value::Bool(*p || *q),
-        (LogicOp::Implies, Value::Bool(p), Value::Bool(q)) => Value::Bool(!*p || *q),
+        (LogicOp::Eq, x, y) => Value::Bool(logic::eq(x, y)),
+        (LogicOp::And, Value::Bool(p), Value::Bool(q)) => Value::Bool(logic::and(*p, *q)),
+        (LogicOp::Or, Value::Bool(p), Value::Bool(q)) => Value::Bool(logic::or(*p, *q)),
+        (LogicOp::Implies, Value::Bool(p), Value::Bool(q)) => Value::Bool(logic::implies(*p, *q)),
         _ => Value::Bool(false),
     }
 }

@@ -2,11 +2,12 @@
 ghost use Rattle.std.specs.Prelude.{◌≡◌, ◌∷◌, [], true, map};
 ghost use Rattle.kid_value.specs.PlainValue.{int};
 ghost use Rattle.kid_value.specs.ValueView.{plain};
-ghost use Rattle.kid_term.specs.NumberRows.{number_value, quotient as quotient_of, rest as rest_of};
+ghost use Rattle.kid_term.specs.NumberRows.{number_value};
 ghost use Rattle.kid_term.specs.Small.{is_small};
 ghost use Rattle.kid_eval.specs.ScopeView.{plain_seen};
 
 use crate::scope::{Seen, seen_value};
+use kid_ops::number;
 use kid_term::NumberOp;
 use kid_value::Value;
 
@@ -27,7 +28,7 @@ fn of_one(op: NumberOp, a: &Value) -> Value
     ensures { plain result ≡ number_value op (plain a.now ∷ []) }
 {
     match (op, a) {
-        (NumberOp::Neg, Value::Int(a)) => Value::Int(-*a),
+        (NumberOp::Neg, Value::Int(a)) => Value::Int(number::neg(*a)),
         _ => Value::Bool(false),
     }
 }
@@ -47,49 +48,15 @@ fn of_integers(op: NumberOp, a: &i64, b: &i64) -> Value
     ensures { plain result ≡ number_value op (int a.now ∷ int b.now ∷ []) }
 {
     match op {
-        NumberOp::Le => Value::Bool(*a <= *b),
-        NumberOp::Lt => Value::Bool(*a < *b),
-        NumberOp::Add => Value::Int(*a + *b),
-        NumberOp::Sub => Value::Int(*a - *b),
+        NumberOp::Le => Value::Bool(number::le(*a, *b)),
+        NumberOp::Lt => Value::Bool(number::lt(*a, *b)),
+        NumberOp::Add => Value::Int(number::add(*a, *b)),
+        NumberOp::Sub => Value::Int(number::sub(*a, *b)),
         NumberOp::Neg => Value::Bool(false),
-        NumberOp::Mul => Value::Int(*a * *b),
-        NumberOp::Div => Value::Int(quotient(a, b)),
-        NumberOp::Mod => Value::Int(rest(a, b)),
-        NumberOp::Min => Value::Int((*a).min(*b)),
-        NumberOp::Max => Value::Int((*a).max(*b)),
-    }
-}
-
-/// The quotient that leaves a rest from 0 on, and 0 where the divisor is 0.
-fn quotient(a: &i64, b: &i64) -> i64
-    requires { is_small (int (quotient_of a.now b.now)) ≡ true }
-    ensures { result ≡ quotient_of a.now b.now }
-{
-    if *b == 0 { 0 } else { (*a).div_euclid(*b) }
-}
-
-/// The rest that the quotient leaves, and 0 where the divisor is 0.
-fn rest(a: &i64, b: &i64) -> i64
-    requires { is_small (int (rest_of a.now b.now)) ≡ true }
-    ensures { result ≡ rest_of a.now b.now }
-{
-    if *b == 0 || *b == -1 {
-        0
-    } else {
-        (*a).rem_euclid(*b)
-    }
-}
-
-#[cfg(test)]
-mod tests {
-    use super::*;
-
-    #[test]
-    fn leaves_a_rest_from_zero_on(rt: HostRuntime) {
-        assert_eq!(rt; quotient(&-7, &3), -3);
-        assert_eq!(rt; rest(&-7, &3), 2);
-        assert_eq!(rt; quotient(&7, &-2), -3);
-        assert_eq!(rt; quotient(&5, &0), 0);
-        assert_eq!(rt; rest(&5, &0), 0);
+        NumberOp::Mul => Value::Int(number::mul(*a, *b)),
+        NumberOp::Div => Value::Int(number::div(*a, *b)),
+        NumberOp::Mod => Value::Int(number::modulo(*a, *b)),
+        NumberOp::Min => Value::Int(number::min(*a, *b)),
+        NumberOp::Max => Value::Int(number::max(*a, *b)),
     }
 }

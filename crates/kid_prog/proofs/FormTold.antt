@@ -8,15 +8,16 @@ use Rattle.kid_value.specs.PlainSort.{PlainSort, is_allowed}
 use Rattle.kid_value.proofs.SortLemmas.{and_parts, and_both}
 use Rattle.kid_term.specs.Names.{Names}
 use Rattle.kid_term.specs.PlainTerm.{PlainTerm, term_row}
+use Rattle.kid_sorting.specs.Declaring.{are_allowed}
 use Rattle.kid_codec.specs.Name.{is_name}
-use Rattle.kid_codec.specs.Shape.{form, single, couple}
+use Rattle.kid_codec.specs.Shape.{form, single, couple, quadruple}
 use Rattle.kid_codec.specs.SortSpelling.{headed, is_spelled_sort, spelled_sort}
 use Rattle.kid_codec.specs.TermSpelling.{is_spelled_term, are_spelled_terms, casts_are_allowed, all_casts_are_allowed, spelled_name, spelled_term, spelled_terms}
 use Rattle.kid_codec.proofs.Found.{same_some, if_some, mapped, both_some, bind_some}
 use Rattle.kid_codec.proofs.Numbers.{bytes_eq-true}
 use Rattle.kid_codec.proofs.SortTold.{sort_whole}
 use Rattle.kid_codec.proofs.TermTold.{TermsTold, term_told}
-use Rattle.kid_prog.specs.Forms.{named, named_pair, named_list, spelled_names, names_list, are_allowed, named_form}
+use Rattle.kid_prog.specs.Forms.{named, named_pair, named_list, spelled_names, names_list, named_form}
 use Rattle.kid_prog.specs.Spelling.{named_spelling, names_spelling, is_spelled_name}
 
 pub form_told : (w : List ℕ) (t : Plain) (ts : Plains) → form w t ≡ Some ts → t ≡ headed w ts
@@ -39,6 +40,15 @@ couple_told none p e = cc
 couple_told (more t none) p e = cc
 couple_told (more t (more u none)) p e = ap (λ (q : Plain × Plain). more q.0 (one q.1)) (same_some (t, u) p e)
 couple_told (more t (more u (more v vs))) p e = cc
+
+pub quadruple_told : (ts : Plains) (q : Plain × Plain × Plain × Plain) → quadruple ts ≡ Some q → ts ≡ more q.0 (more q.1 (more q.2 (one q.3)))
+quadruple_told none q e = cc
+quadruple_told (more t none) q e = cc
+quadruple_told (more t (more u none)) q e = cc
+quadruple_told (more t (more u (more v none))) q e = cc
+quadruple_told (more t (more u (more v (more w none)))) q e =
+    ap (λ (p : Plain × Plain × Plain × Plain). more p.0 (more p.1 (more p.2 (one p.3)))) (same_some (t, u, v, w) q e)
+quadruple_told (more t (more u (more v (more w (more x xs))))) q e = cc
 
 pub name_told : (t : Plain) (x : List ℕ) → spelled_name t ≡ Some x → (t ≡ atom x) × (is_name x ≡ true)
 name_told (atom w) x p =

@@ -8,6 +8,7 @@ pub mod Casts
 pub mod Obeyed
 pub mod FormTold
 pub mod StmtTold
+pub mod DefTold
 pub mod StageForms
 pub mod LoadTold
 pub mod SpellingBack
@@ -16,4 +17,5 @@ pub mod Laws
 pub mod Rows
 pub mod Obeying
 pub mod StageLemmas
-pub mod Sizes
+pub mod Depths
+pub mod Settings

@@ -1,27 +1,28 @@
 -- A program that loads can be run, and is the one that the forms spell.
-use Rattle.std.proofs.Common.{◌≡◌, ◌⊎◌, inl, inr, ℕ, suc, Bool, true, false, List, [], ◌∷◌, ◌++◌, Option, Ok, refl, sym, ap, ◌∙◌, cond, append_assoc, append-nil, subst}
+use Rattle.std.proofs.Common.{◌≡◌, ℕ, suc, Bool, true, false, List, [], ◌∷◌, ◌++◌, Option, Ok, refl, sym, ap, ◌∙◌, append_assoc, append-nil, subst}
 use Rattle.std.specs.Prelude.{◌&&◌, not, if◌then◌else◌}
 use Rattle.std.specs.List.{list_all}
 use Rattle.std.proofs.lemmas.List.Folds.{list_all-append}
 use Rattle.kid_sexp.specs.Plain.{Plain, Plains, none, more, one}
 use Rattle.kid_value.specs.PlainSort.{PlainSort, is_allowed, has_never}
 use Rattle.kid_value.proofs.SortLemmas.{and_parts, and_both}
-use Rattle.kid_term.specs.Fitting.{AreAllowed}
-use Rattle.kid_term.specs.Names.{Names, PlainDef, same_name}
+use Rattle.kid_term.specs.Fitting.{AreSound}
+use Rattle.kid_term.specs.Names.{Names, PlainDef}
 use Rattle.kid_term.specs.PlainTerm.{PlainTerm}
-use Rattle.kid_term.specs.Sorted.{Sorted}
-use Rattle.kid_term.specs.Sorting.{sort_at}
-use Rattle.kid_term.proofs.Inversions.{ok, ok_same}
+use Rattle.kid_sorting.specs.Declaring.{are_allowed}
+use Rattle.kid_sorting.specs.PlainSignature.{PlainSignature}
+use Rattle.kid_sorting.proofs.SoundDefinitions.{names-allowed, sound-more}
 use Rattle.kid_codec.specs.Name.{is_name}
 use Rattle.kid_codec.specs.SortSpelling.{is_spelled_sort}
 use Rattle.kid_prog.specs.PlainProgram.{PlainProgram}
 use Rattle.kid_prog.specs.PlainStmt.{PlainStmts}
 use Rattle.kid_prog.specs.Rules.{IsRunnable, obey}
-use Rattle.kid_prog.specs.Spelling.{definitions_before, inputs_before, last_forms, program_spelling, is_spelled_name, is_spelled_program}
-use Rattle.kid_prog.specs.Forms.{version_form, input_form, require_form, output_form, is_input, setting, known_parameters, main_form, search_form}
-use Rattle.kid_prog.specs.Loading.{◌>>=◌, refused, at, Heading, program_with, at_end, after_main, after_output, after_condition, after_inputs, program_from}
+use Rattle.kid_prog.specs.Spelling.{definitions_before, inputs_before, last_forms, program_spelling, is_spelled_name, is_spelled_definition, is_spelled_program}
+use Rattle.kid_prog.specs.Forms.{version_form, is_def, def_form, input_form, require_form, output_form, is_input, setting, known_parameters, main_form, search_form}
+use Rattle.kid_prog.specs.Loading.{◌>>=◌, refused, at, Heading, program_with, at_end, after_main, after_output, after_condition, with_input, after_inputs, defined, after_definitions, program_from}
 use Rattle.kid_prog.specs.declared.fault.LoadCode.{LoadCode}
 use Rattle.kid_prog.specs.declared.fault.LoadCode.TheVariants as code
+use Rattle.kid_prog.proofs.DefTold.{def_told}
 use Rattle.kid_prog.proofs.ProgramParts.{IsSpelled, spelled_whole}
 use Rattle.kid_prog.proofs.Stages.{staged, ended}
 use Rattle.kid_prog.proofs.StageForms.{version_told, input_told, output_told, require_told, main_told, search_told}
@@ -29,24 +30,24 @@ use Rattle.kid_prog.proofs.StageForms.{version_told, input_told, output_told, re
 not_refused : {A : Type 0} (k : ℕ) (c : LoadCode) (x : A) → refused k c ≡ Ok x → ⊥
 not_refused k c x p = cc
 
-first_or_rest : (b : Bool) (a : PlainSort) (r : Sorted) (s : PlainSort) → cond b (ok a) r ≡ ok s → (a ≡ s) ⊎ (r ≡ ok s)
-first_or_rest true a r s p = inl (ok_same a s p)
-first_or_rest false a r s p = inr p
-
 -- names that have spellings have allowed sorts
-allowed_names : (ns : Names) → list_all is_spelled_name ns ≡ true → AreAllowed ns
-allowed_names [] h x s p = cc
-allowed_names (n ∷ ns) h x s p =
+spelled-allowed : (ns : Names) → list_all is_spelled_name ns ≡ true → are_allowed ns ≡ true
+spelled-allowed [] h = refl
+spelled-allowed (n ∷ ns) h =
     let r = and_parts (is_spelled_name n) (list_all is_spelled_name ns) h in
-    let q = and_parts (is_name n.0) (is_spelled_sort n.1) r.0 in
-    let a = and_parts (is_allowed n.1) (not (has_never n.1)) q.1 in
-    elim (first_or_rest (same_name x n.0) n.1 (sort_at x ns) s p) [
-      | inl e ↦ ap is_allowed (sym e) ∙ a.0
-      | inr e ↦ allowed_names ns r.1 x s e
-    ]
+    and_both (is_allowed n.1) (are_allowed ns) (name_allowed n r.0) (spelled-allowed ns r.1)
+  where
+    name_allowed : (n : List ℕ × PlainSort) → is_spelled_name n ≡ true → is_allowed n.1 ≡ true
+    name_allowed n h = (and_parts (is_allowed n.1) (not (has_never n.1)) (and_parts (is_name n.0) (is_spelled_sort n.1) h).1).0
+
+-- definitions that are sound, and names that have spellings
+record Proper (s : PlainSignature) : Type 0 where
+  sound : AreSound s.definitions
+  definitions : list_all is_spelled_definition s.definitions ≡ true
+  inputs : list_all is_spelled_name s.inputs ≡ true
 
 -- the forms after the condition
-record LastFound (inputs : Names) (condition : PlainTerm) (ts : Plains) (p : PlainProgram) : Type 0 where
+record LastFound (s : PlainSignature) (condition : PlainTerm) (ts : Plains) (p : PlainProgram) : Type 0 where
   output_tree : Plain
   main_tree : Plain
   search_tree : Plain
@@ -54,29 +55,29 @@ record LastFound (inputs : Names) (condition : PlainTerm) (ts : Plains) (p : Pla
   main : PlainStmts
   search : Names × PlainStmts
   trees : ts ≡ more output_tree (more main_tree (one search_tree))
-  output_is : output_form inputs output_tree ≡ Ok output
-  main_is : main_form inputs output.1 (known_parameters (inputs ++ output ∷ []) (one search_tree)) main_tree ≡ Ok main
-  search_is : search_form inputs output search_tree ≡ Ok search
-  whole : program_with (record { inputs = inputs; condition = condition; output = output }) main search ≡ p
+  output_is : output_form s output_tree ≡ Ok output
+  main_is : main_form s output.1 (known_parameters s output (one search_tree)) main_tree ≡ Ok main
+  search_is : search_form s output search_tree ≡ Ok search
+  whole : program_with (record { signature = s; condition = condition; output = output }) main search ≡ p
 
-abbrev heading : Names → PlainTerm → List ℕ × PlainSort → Heading
-heading inputs condition output = record { inputs = inputs; condition = condition; output = output }
+abbrev heading : PlainSignature → PlainTerm → List ℕ × PlainSort → Heading
+heading s condition output = record { signature = s; condition = condition; output = output }
 
-last_found : (k : ℕ) (inputs : Names) (condition : PlainTerm) (ts : Plains) (p : PlainProgram) → after_condition k inputs condition ts ≡ Ok p → LastFound inputs condition ts p
-last_found k inputs condition none p e = absurd (not_refused (suc k) code.Form p e)
-last_found k inputs condition (more t none) p e =
-    let a = staged (suc k) (output_form inputs t) (λ output. after_output (suc k) (heading inputs condition output) none) p e in
+last_found : (k : ℕ) (s : PlainSignature) (condition : PlainTerm) (ts : Plains) (p : PlainProgram) → after_condition k s condition ts ≡ Ok p → LastFound s condition ts p
+last_found k s condition none p e = absurd (not_refused (suc k) code.Form p e)
+last_found k s condition (more t none) p e =
+    let a = staged (suc k) (output_form s t) (λ output. after_output (suc k) (heading s condition output) none) p e in
     absurd (not_refused (suc (suc k)) code.Form p a.2)
-last_found k inputs condition (more t (more u none)) p e =
-    let a = staged (suc k) (output_form inputs t) (λ output. after_output (suc k) (heading inputs condition output) (one u)) p e in
-    let h = heading inputs condition a.0 in
-    let b = staged (suc (suc k)) (main_form inputs a.0.1 (known_parameters (inputs ++ a.0 ∷ []) none) u) (λ main. after_main (suc (suc k)) h main none) p a.2 in
+last_found k s condition (more t (more u none)) p e =
+    let a = staged (suc k) (output_form s t) (λ output. after_output (suc k) (heading s condition output) (one u)) p e in
+    let h = heading s condition a.0 in
+    let b = staged (suc (suc k)) (main_form s a.0.1 (known_parameters s a.0 none) u) (λ main. after_main (suc (suc k)) h main none) p a.2 in
     absurd (not_refused (suc (suc (suc k))) code.Form p b.2)
-last_found k inputs condition (more t (more u (more v vs))) p e =
-    let a = staged (suc k) (output_form inputs t) (λ output. after_output (suc k) (heading inputs condition output) (more u (more v vs))) p e in
-    let h = heading inputs condition a.0 in
-    let b = staged (suc (suc k)) (main_form inputs a.0.1 (known_parameters (inputs ++ a.0 ∷ []) (more v vs)) u) (λ main. after_main (suc (suc k)) h main (more v vs)) p a.2 in
-    let c = staged (suc (suc (suc k))) (search_form inputs a.0 v) (λ search. at_end (suc (suc (suc k))) (program_with h b.0 search) vs) p b.2 in
+last_found k s condition (more t (more u (more v vs))) p e =
+    let a = staged (suc k) (output_form s t) (λ output. after_output (suc k) (heading s condition output) (more u (more v vs))) p e in
+    let h = heading s condition a.0 in
+    let b = staged (suc (suc k)) (main_form s a.0.1 (known_parameters s a.0 (more v vs)) u) (λ main. after_main (suc (suc k)) h main (more v vs)) p a.2 in
+    let c = staged (suc (suc (suc k))) (search_form s a.0 v) (λ search. at_end (suc (suc (suc k))) (program_with h b.0 search) vs) p b.2 in
     let d = ended (suc (suc (suc k))) (program_with h b.0 c.0) p vs c.2 in
     record {
       output_tree = t;
@@ -92,95 +93,158 @@ last_found k inputs condition (more t (more u (more v vs))) p e =
       whole = d.1;
     }
 
--- what the forms after the version tell, after these inputs
-record RestTold (before : Names) (ts : Plains) (p : PlainProgram) : Type 0 where
+-- what the forms after these definitions and inputs tell
+record RestTold (s : PlainSignature) (ts : Plains) (p : PlainProgram) : Type 0 where
   rest : Names
-  inputs : before ++ rest ≡ p.inputs
-  definitions : p.definitions ≡ []
+  inputs : s.inputs ++ rest ≡ p.inputs
+  definitions : s.definitions ≡ p.definitions
   trees : ts ≡ inputs_before rest (last_forms p)
   runnable : IsRunnable p
   spelled : IsSpelled p
 
-last_told : (k : ℕ) (inputs : Names) (t : Plain) (condition : PlainTerm) (ts : Plains) (p : PlainProgram) → list_all is_spelled_name inputs ≡ true
-    → require_form inputs t ≡ Ok condition → after_condition k inputs condition ts ≡ Ok p → RestTold inputs (more t ts) p
-last_told k inputs t condition ts p names required e =
-    let f = last_found k inputs condition ts p e in
-    let r = require_told inputs t condition required in
-    let o = output_told inputs f.output_tree f.output f.output_is in
-    let m = main_told inputs f.output.1 (known_parameters (inputs ++ f.output ∷ []) (one f.search_tree)) f.main_tree f.main f.main_is in
-    let s = search_told inputs f.output f.search_tree f.search f.search_is in
+last_told : (k : ℕ) (s : PlainSignature) (t : Plain) (condition : PlainTerm) (ts : Plains) (p : PlainProgram) → Proper s
+    → require_form s t ≡ Ok condition → after_condition k s condition ts ≡ Ok p → RestTold s (more t ts) p
+last_told k s t condition ts p proper required e =
+    let f = last_found k s condition ts p e in
+    let r = require_told s t condition required in
+    let o = output_told s f.output_tree f.output f.output_is in
+    let m = main_told s f.output.1 (known_parameters s f.output (one f.search_tree)) f.main_tree f.main f.main_is in
+    let n = search_told s f.output f.search_tree f.search f.search_is in
     let a = r.tree in
     let b = o.0 in
     let c = m.tree in
-    let d = s.tree in
-    subst (RestTold inputs (more t ts)) f.whole
+    let d = n.tree in
+    subst (RestTold s (more t ts)) f.whole
     (record {
       rest = [];
-      inputs = append-nil inputs;
+      inputs = append-nil s.inputs;
       definitions = refl;
       trees = ap (more t) f.trees ∙ (λ i. more (a i) (more (b i) (more (c i) (one (d i)))));
       runnable = record {
-        sound = tt;
-        inputs_allowed = allowed_names inputs names;
-        parameters_allowed = allowed_names f.search.0 s.parameters;
+        sound = proper.sound;
+        inputs_allowed = names-allowed s.inputs (spelled-allowed s.inputs proper.inputs);
+        parameters_allowed = names-allowed f.search.0 (spelled-allowed f.search.0 n.parameters);
         sort_allowed = output_allowed f.output o.1;
         condition = r.sorted;
-        main = ap (λ (ps : Option Names). obey (setting f.output.1 ps) inputs f.main) (sym s.known) ∙ m.obeys;
-        search = s.obeys;
+        main = ap (λ (ps : Option Names). obey (setting s.definitions f.output.1 ps) s.inputs f.main) (sym n.known) ∙ m.obeys;
+        search = n.obeys;
       };
-      spelled = record { definitions = refl; inputs = names; condition = r.spelled; output = o.1; main = m.spelled; parameters = s.parameters; search = s.spelled };
+      spelled = record {
+        definitions = proper.definitions;
+        inputs = proper.inputs;
+        condition = r.spelled;
+        output = o.1;
+        main = m.spelled;
+        parameters = n.parameters;
+        search = n.spelled;
+      };
     })
   where
     output_allowed : (n : List ℕ × PlainSort) → is_spelled_name n ≡ true → is_allowed n.1 ≡ true
     output_allowed n h = (and_parts (is_allowed n.1) (not (has_never n.1)) (and_parts (is_name n.0) (is_spelled_sort n.1) h).1).0
 
 -- one more input
-input_more : (k : ℕ) (before : Names) (t : Plain) (ts : Plains) (p : PlainProgram) (n : List ℕ × PlainSort) → input_form before t ≡ Ok n → RestTold (before ++ n ∷ []) ts p → RestTold before (more t ts) p
-input_more k before t ts p n is r =
-    let told = input_told before t n is in
+input_more : (k : ℕ) (s : PlainSignature) (t : Plain) (ts : Plains) (p : PlainProgram) (n : List ℕ × PlainSort) → input_form s t ≡ Ok n → RestTold (with_input s n) ts p → RestTold s (more t ts) p
+input_more k s t ts p n is r =
+    let told = input_told s t n is in
     let a = told.0 in
     let b = r.trees in
     record {
       rest = n ∷ r.rest;
-      inputs = sym (append_assoc before (n ∷ []) r.rest) ∙ r.inputs;
+      inputs = sym (append_assoc s.inputs (n ∷ []) r.rest) ∙ r.inputs;
       definitions = r.definitions;
       trees = λ i. more (a i) (b i);
       runnable = r.runnable;
       spelled = r.spelled;
     }
 
-grown : (before : Names) (n : List ℕ × PlainSort) → list_all is_spelled_name before ≡ true → is_spelled_name n ≡ true → list_all is_spelled_name (before ++ n ∷ []) ≡ true
-grown before n h k = list_all-append is_spelled_name before (n ∷ []) ∙ and_both (list_all is_spelled_name before) (is_spelled_name n && true) h (and_both (is_spelled_name n) true k refl)
+one_more : {A : Type 0} (test : A → Bool) (xs : List A) (x : A) → list_all test xs ≡ true → test x ≡ true → list_all test (xs ++ x ∷ []) ≡ true
+one_more test xs x h k = list_all-append test xs (x ∷ []) ∙ and_both (list_all test xs) (test x && true) h (and_both (test x) true k refl)
+
+input_proper : (s : PlainSignature) (t : Plain) (n : List ℕ × PlainSort) → input_form s t ≡ Ok n → Proper s → Proper (with_input s n)
+input_proper s t n is h =
+    record { sound = h.sound; definitions = h.definitions; inputs = one_more is_spelled_name s.inputs n h.inputs (input_told s t n is).1 }
 
 abbrev TellsRest : ℕ → Plains → PlainProgram → Type 0
-TellsRest k ts p = (before : Names) → after_inputs k before ts ≡ Ok p → list_all is_spelled_name before ≡ true → RestTold before ts p
+TellsRest k ts p = (s : PlainSignature) → after_inputs k s ts ≡ Ok p → Proper s → RestTold s ts p
 
-step_told : (k : ℕ) (before : Names) (t : Plain) (ts : Plains) (p : PlainProgram) → list_all is_spelled_name before ≡ true → TellsRest (suc k) ts p
+step_told : (k : ℕ) (s : PlainSignature) (t : Plain) (ts : Plains) (p : PlainProgram) → Proper s → TellsRest (suc k) ts p
     → (b : Bool)
-    → (if b then (at (suc k) (input_form before t) >>= λ n. after_inputs (suc k) (before ++ n ∷ []) ts) else (at (suc k) (require_form before t) >>= λ condition. after_condition (suc k) before condition ts)) ≡ Ok p
-    → RestTold before (more t ts) p
-step_told k before t ts p names tells true e =
-    let a = staged (suc k) (input_form before t) (λ n. after_inputs (suc k) (before ++ n ∷ []) ts) p e in
-    input_more k before t ts p a.0 a.1 (tells (before ++ a.0 ∷ []) a.2 (grown before a.0 names (input_told before t a.0 a.1).1))
-step_told k before t ts p names tells false e =
-    let a = staged (suc k) (require_form before t) (λ condition. after_condition (suc k) before condition ts) p e in
-    last_told (suc k) before t a.0 ts p names a.1 a.2
+    → (if b then (at (suc k) (input_form s t) >>= λ n. after_inputs (suc k) (with_input s n) ts) else (at (suc k) (require_form s t) >>= λ condition. after_condition (suc k) s condition ts)) ≡ Ok p
+    → RestTold s (more t ts) p
+step_told k s t ts p proper tells true e =
+    let a = staged (suc k) (input_form s t) (λ n. after_inputs (suc k) (with_input s n) ts) p e in
+    input_more k s t ts p a.0 a.1 (tells (with_input s a.0) a.2 (input_proper s t a.0 a.1 proper))
+step_told k s t ts p proper tells false e =
+    let a = staged (suc k) (require_form s t) (λ condition. after_condition (suc k) s condition ts) p e in
+    last_told (suc k) s t a.0 ts p proper a.1 a.2
 
 rest_told : (k : ℕ) (ts : Plains) (p : PlainProgram) → TellsRest k ts p
-rest_told k none p before e h = absurd (not_refused (suc k) code.Form p e)
-rest_told k (more t ts) p before e h = step_told k before t ts p h (λ names q j. rest_told (suc k) ts p names q j) (is_input t) e
+rest_told k none p s e h = absurd (not_refused (suc k) code.Form p e)
+rest_told k (more t ts) p s e h = step_told k s t ts p h (λ z q j. rest_told (suc k) ts p z q j) (is_input t) e
+
+-- what the forms after these definitions tell
+record AllTold (defs : List PlainDef) (ts : Plains) (p : PlainProgram) : Type 0 where
+  rest : List PlainDef
+  definitions : defs ++ rest ≡ p.definitions
+  trees : ts ≡ definitions_before rest (inputs_before p.inputs (last_forms p))
+  runnable : IsRunnable p
+  spelled : IsSpelled p
+
+no_more : (k : ℕ) (defs : List PlainDef) (ts : Plains) (p : PlainProgram) → Proper (defined defs) → after_inputs k (defined defs) ts ≡ Ok p → AllTold defs ts p
+no_more k defs ts p proper e =
+    let r = rest_told k ts p (defined defs) e proper in
+    record {
+      rest = [];
+      definitions = append-nil defs ∙ r.definitions;
+      trees = r.trees ∙ ap (λ (ns : Names). inputs_before ns (last_forms p)) r.inputs;
+      runnable = r.runnable;
+      spelled = r.spelled;
+    }
+
+def_proper : (defs : List PlainDef) (t : Plain) (d : PlainDef) → def_form defs t ≡ Ok d → Proper (defined defs) → Proper (defined (defs ++ d ∷ []))
+def_proper defs t d is h =
+    let told = def_told defs t d is in
+    record { sound = sound-more defs d h.sound told.sorted; definitions = one_more is_spelled_definition defs d h.definitions told.spelled; inputs = refl }
+
+def_more : (defs : List PlainDef) (t : Plain) (ts : Plains) (p : PlainProgram) (d : PlainDef) → def_form defs t ≡ Ok d → AllTold (defs ++ d ∷ []) ts p → AllTold defs (more t ts) p
+def_more defs t ts p d is r =
+    let a = (def_told defs t d is).tree in
+    let b = r.trees in
+    record {
+      rest = d ∷ r.rest;
+      definitions = sym (append_assoc defs (d ∷ []) r.rest) ∙ r.definitions;
+      trees = λ i. more (a i) (b i);
+      runnable = r.runnable;
+      spelled = r.spelled;
+    }
+
+abbrev TellsAll : ℕ → Plains → PlainProgram → Type 0
+TellsAll k ts p = (defs : List PlainDef) → after_definitions k defs ts ≡ Ok p → Proper (defined defs) → AllTold defs ts p
+
+def_step : (k : ℕ) (defs : List PlainDef) (t : Plain) (ts : Plains) (p : PlainProgram) → Proper (defined defs) → TellsAll (suc k) ts p
+    → (b : Bool)
+    → (if b then (at (suc k) (def_form defs t) >>= λ d. after_definitions (suc k) (defs ++ d ∷ []) ts) else after_inputs k (defined defs) (more t ts)) ≡ Ok p
+    → AllTold defs (more t ts) p
+def_step k defs t ts p proper tells true e =
+    let a = staged (suc k) (def_form defs t) (λ d. after_definitions (suc k) (defs ++ d ∷ []) ts) p e in
+    def_more defs t ts p a.0 a.1 (tells (defs ++ a.0 ∷ []) a.2 (def_proper defs t a.0 a.1 proper))
+def_step k defs t ts p proper tells false e = no_more k defs (more t ts) p proper e
+
+all_told : (k : ℕ) (ts : Plains) (p : PlainProgram) → TellsAll k ts p
+all_told k none p defs e h = no_more k defs none p h e
+all_told k (more t ts) p defs e h = def_step k defs t ts p h (λ ds q j. all_told (suc k) ts p ds q j) (is_def t) e
 
 pub record ProgramTold (ts : Plains) (p : PlainProgram) : Type 0 where
   pub trees : ts ≡ program_spelling p
-  pub definitions : p.definitions ≡ []
   pub runnable : IsRunnable p
   pub spelled : is_spelled_program p ≡ true
 
 pub program_told : (ts : Plains) (p : PlainProgram) → program_from ts ≡ Ok p → ProgramTold ts p
 program_told none p e = absurd (not_refused 1 code.Form p e)
 program_told (more t ts) p e =
-    let a = staged 1 (version_form t) (λ u. after_inputs 1 [] ts) p e in
-    let r = rest_told 1 ts p [] a.2 refl in
+    let a = staged 1 (version_form t) (λ u. after_definitions 1 [] ts) p e in
+    let r = all_told 1 ts p [] a.2 (record { sound = tt; definitions = refl; inputs = refl }) in
     let v = version_told t a.0 a.1 in
-    let is = r.trees ∙ ap (λ (ns : Names). inputs_before ns (last_forms p)) r.inputs ∙ ap (λ (ds : List PlainDef). definitions_before ds (inputs_before p.inputs (last_forms p))) (sym r.definitions) in
-    record { trees = λ i. more (v i) (is i); definitions = r.definitions; runnable = r.runnable; spelled = spelled_whole p r.spelled }
+    let is = r.trees ∙ ap (λ (ds : List PlainDef). definitions_before ds (inputs_before p.inputs (last_forms p))) r.definitions in
+    record { trees = λ i. more (v i) (is i); runnable = r.runnable; spelled = spelled_whole p r.spelled }

@@ -7,9 +7,10 @@ use Rattle.kid_term.specs.Names.{Names, is_named}
 use Rattle.kid_term.specs.PlainTerm.{term_row}
 use Rattle.kid_term.specs.Sorted.{Fault, Sorted}
 use Rattle.kid_term.specs.Sorting.{sort_of}
+use Rattle.kid_sorting.specs.Declaring.{is_truth, is_within, with_name}
 use Rattle.kid_codec.specs.TermSpelling.{casts_are_allowed, all_casts_are_allowed}
 use Rattle.kid_prog.specs.PlainStmt.{PlainStmt, assign, when, each, emit, call, PlainStmts, no_stmt, stmt}
-use Rattle.kid_prog.specs.Rules.{Setting, is_truth, is_within, sorts_of, call_fits, with_name, binds, ranges, obey}
+use Rattle.kid_prog.specs.Rules.{Setting, sorts_of, call_fits, binds, ranges, obey}
 use Rattle.kid_prog.proofs.Casts.{sorted_casts, all_sorted_casts, truth_sorted}
 
 -- whether each sort that a statement's terms cast to is allowed

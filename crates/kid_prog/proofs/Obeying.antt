@@ -1,4 +1,4 @@
--- Statements that meet the rules one after another, and names that are new one after another.
+-- Statements that meet the rules one after another.
 use Rattle.std.proofs.Common.{◌≡◌, ℕ, ◌+◌, ◌<◌, ◌≤◌, Bool, true, false, not, ◌&&◌, ◌||◌, if◌then◌else◌, List, [], ◌∷◌, ◌++◌, length, get_or, drop, take, map, Option, Some, None, Ok, Err, refl, sym, ap, ◌∙◌, arith, subst, append_assoc}
 use Rattle.std.proofs.lemmas.List.{drop_all, map-append, take_more}
 use Rattle.kid_value.specs.PlainSort.{never, bools, ints, pairs, sets, seqs, maps}
@@ -7,12 +7,12 @@ use Rattle.kid_value.specs.declared.sort.Sort.{Sort}
 use Rattle.kid_term.specs.Names.{Names, same_name, is_named}
 use Rattle.kid_term.specs.Sorted.{Sorted}
 use Rattle.kid_term.specs.Sorting.{sort_of}
+use Rattle.kid_sorting.specs.Declaring.{is_within, with_name}
 use Rattle.kid_codec.proofs.Each.{cons_at}
 use Rattle.kid_prog.specs.PlainStmt.{PlainStmt, assign, when, each, emit, call, PlainStmts, stmt, stmt_depth, stmts_depth, stmt_row}
 use Rattle.kid_prog.specs.StmtView.{plain_stmt}
 use Rattle.kid_prog.specs.declared.statement.Stmt.{Stmt}
-use Rattle.kid_prog.specs.Rules.{Setting, is_within, sorts_of, call_fits, with_name, binds, ranges, obey}
-use Rattle.kid_prog.specs.Forms.{is_new, are_new}
+use Rattle.kid_prog.specs.Rules.{Setting, sorts_of, call_fits, binds, ranges, obey}
 use Rattle.kid_prog.specs.Steps.{bound, ranged, held, if_obeys, for_obeys, kept, step}
 
 -- a test of the names after a new one
@@ -83,41 +83,3 @@ pub depth-item : (xs : List Stmt) (i : ℕ) (item : Stmt) (n : ℕ) → i < leng
 depth-item xs i item n within is le =
     let cut : stmts_depth (stmt_row (map plain_stmt (item ∷ drop (i + 1) xs))) ≤ n = subst (λ (ys : List Stmt). stmts_depth (stmt_row (map plain_stmt ys)) ≤ n) (cons_at xs i item within is) le in
     omega arith
-
--- ---- names
-
-or_assoc : (a b c : Bool) → (a || (b || c)) ≡ (a || b || c)
-or_assoc true b c = refl
-or_assoc false b c = refl
-
--- a name is among the one list and the other
-pub is_named_append : (x : List ℕ) (ns ms : Names) → is_named x (ns ++ ms) ≡ (is_named x ns || is_named x ms)
-is_named_append x [] ms = refl
-is_named_append x (n ∷ ns) ms = ap (λ b. same_name x n.0 || b) (is_named_append x ns ms) ∙ or_assoc (same_name x n.0) (is_named x ns) (is_named x ms)
-
-are_new-front : (taken : Names) (xs : List (List ℕ × Sort)) (i : ℕ) (item : List ℕ × Sort) → i < length xs → item ≡ get_or xs i item
-    → are_new (taken ++ map plain_name (take i xs)) (map plain_name (drop i xs))
-    ≡ (is_new (taken ++ map plain_name (take i xs)) item.0 && are_new (taken ++ map plain_name (take (i + 1) xs)) (map plain_name (drop (i + 1) xs)))
-are_new-front taken xs i item within is =
-    let grown : map plain_name (take (i + 1) xs) ≡ map plain_name (take i xs) ++ plain_name item ∷ [] =
-    ap (map plain_name) (take_more xs i item within) ∙ map-append plain_name (take i xs) (get_or xs i item ∷ [])
-    ∙ ap (λ (y : List ℕ × Sort). map plain_name (take i xs) ++ plain_name y ∷ []) (sym is) in
-    let all : (taken ++ map plain_name (take i xs)) ++ plain_name item ∷ [] ≡ taken ++ map plain_name (take (i + 1) xs) =
-    append_assoc taken (map plain_name (take i xs)) (plain_name item ∷ []) ∙ ap (λ (ns : Names). taken ++ ns) (sym grown) in
-    ap (λ (ys : List (List ℕ × Sort)). are_new (taken ++ map plain_name (take i xs)) (map plain_name ys)) (cons_at xs i item within is)
-    ∙ ap (λ (ns : Names). is_new (taken ++ map plain_name (take i xs)) item.0 && are_new ns (map plain_name (drop (i + 1) xs))) all
-
-pub are_new-next : (taken : Names) (xs : List (List ℕ × Sort)) (i : ℕ) (item : List ℕ × Sort) (total : Bool) → i < length xs → item ≡ get_or xs i item
-    → is_named item.0 (taken ++ map plain_name (take i xs)) ≡ false
-    → are_new (taken ++ map plain_name (take i xs)) (map plain_name (drop i xs)) ≡ total
-    → are_new (taken ++ map plain_name (take (i + 1) xs)) (map plain_name (drop (i + 1) xs)) ≡ total
-are_new-next taken xs i item total within is new told =
-    ap (λ b. not b && are_new (taken ++ map plain_name (take (i + 1) xs)) (map plain_name (drop (i + 1) xs))) (sym new)
-    ∙ sym (are_new-front taken xs i item within is) ∙ told
-
-pub are_new-refused : (taken : Names) (xs : List (List ℕ × Sort)) (i : ℕ) (item : List ℕ × Sort) (total : Bool) → i < length xs → item ≡ get_or xs i item
-    → is_named item.0 (taken ++ map plain_name (take i xs)) ≡ true
-    → are_new (taken ++ map plain_name (take i xs)) (map plain_name (drop i xs)) ≡ total → false ≡ total
-are_new-refused taken xs i item total within is named told =
-    ap (λ b. not b && are_new (taken ++ map plain_name (take (i + 1) xs)) (map plain_name (drop (i + 1) xs))) (sym named)
-    ∙ sym (are_new-front taken xs i item within is) ∙ told

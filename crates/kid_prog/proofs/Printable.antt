@@ -60,13 +60,13 @@ mutual
   term_printable (truth true) h = refl
   term_printable (truth false) h = refl
   term_printable (app (op o) ts) h =
-      let r = and_parts (is_spelled_head (op o) (length (terms ts))) (are_spelled_terms ts) h in
+      let r = and_parts (is_spelled_head (op o) (terms ts)) (are_spelled_terms ts) h in
       and_both (is_word (word_of o)) (is_printable (term_spellings ts)) (op_word o) (terms_printable ts r.1)
   term_printable (app (call f) ts) h =
       let r = and_parts (is_name f) (are_spelled_terms ts) h in
       and_both (is_word f) (is_printable (term_spellings ts)) (name_word f r.0) (terms_printable ts r.1)
   term_printable (app (cast s) ts) h =
-      let r = and_parts (is_spelled_head (cast s) (length (terms ts))) (are_spelled_terms ts) h in
+      let r = and_parts (is_spelled_head (cast s) (terms ts)) (are_spelled_terms ts) h in
       let q = and_parts _ (is_spelled_sort s) r.0 in
       and_both (is_printable_tree (sort_spelling s)) (is_printable (term_spellings ts)) (spelled_sort_printable s q.1) (terms_printable ts r.1)
   term_printable (bind b x s t) h =

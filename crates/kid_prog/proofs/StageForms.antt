@@ -10,6 +10,8 @@ use Rattle.kid_value.proofs.SortLemmas.{and_parts, and_both}
 use Rattle.kid_term.specs.Names.{Names}
 use Rattle.kid_term.specs.PlainTerm.{PlainTerm}
 use Rattle.kid_term.specs.Sorting.{sort_of}
+use Rattle.kid_sorting.specs.Declaring.{are_allowed, is_truth}
+use Rattle.kid_sorting.specs.PlainSignature.{PlainSignature}
 use Rattle.kid_codec.specs.Reading.{◌>>=◌}
 use Rattle.kid_codec.specs.Shape.{form, single}
 use Rattle.kid_codec.specs.SortSpelling.{number_tree, headed, spelled_number}
@@ -17,10 +19,10 @@ use Rattle.kid_codec.specs.TermSpelling.{term_spelling, is_spelled_term, spelled
 use Rattle.kid_codec.proofs.Found.{both_some, bind_some, number_from}
 use Rattle.kid_codec.proofs.TermTold.{term_told}
 use Rattle.kid_prog.specs.PlainStmt.{PlainStmts}
-use Rattle.kid_prog.specs.Rules.{is_truth, obey}
+use Rattle.kid_prog.specs.Rules.{obey}
 use Rattle.kid_prog.specs.Spelling.{named_spelling, names_spelling, stmt_spellings, is_spelled_name, are_spelled_stmts}
 use Rattle.kid_prog.specs.StmtShape.{spelled_stmts}
-use Rattle.kid_prog.specs.Forms.{names_list, is_new, are_new, are_allowed, version_of, version_form, named_form, input_form, require_form, output_form, first_names, if_proper, known_parameters, setting, main_form, search_parts, search_sorted, search_form}
+use Rattle.kid_prog.specs.Forms.{names_list, version_of, version_form, named_form, is_undeclared, are_undeclared, input_form, require_form, output_form, first_names, if_proper, known_parameters, setting, main_sorted, main_form, search_parts, search_sorted, search_form}
 use Rattle.kid_prog.specs.declared.fault.LoadCode.TheVariants as code
 use Rattle.kid_prog.proofs.Casts.{sorted_casts, truth_sorted}
 use Rattle.kid_prog.proofs.FormTold.{form_told, single_told, named_told, names_list_told}
@@ -50,44 +52,45 @@ version_told t u p =
     let s = bind_some (form (codes "program") t) single n.0 n.1 in
     form_told (codes "program") t s.0 s.1 ∙ ap (headed (codes "program")) (single_told s.0 n.0 s.2 ∙ ap one (number_told n.0 (pos 1) n.2))
 
-pub input_told : (inputs : Names) (t : Plain) (n : List ℕ × PlainSort) → input_form inputs t ≡ Ok n → (t ≡ headed (codes "input") (named_spelling n)) × (is_spelled_name n ≡ true)
-input_told inputs t n p =
-    let r = judged_ok (λ (m : List ℕ × PlainSort). is_new inputs m.0 && nat_lt (length inputs) 16) (λ (m : List ℕ × PlainSort). is_allowed m.1) (named_form (codes "input") t) n p in
+pub input_told : (s : PlainSignature) (t : Plain) (n : List ℕ × PlainSort) → input_form s t ≡ Ok n → (t ≡ headed (codes "input") (named_spelling n)) × (is_spelled_name n ≡ true)
+input_told s t n p =
+    let r = judged_ok (λ (m : List ℕ × PlainSort). is_undeclared s m.0 && nat_lt (length s.inputs) 16) (λ (m : List ℕ × PlainSort). is_allowed m.1) (named_form (codes "input") t) n p in
     named_told (codes "input") t n r.0 r.2
 
-pub output_told : (inputs : Names) (t : Plain) (n : List ℕ × PlainSort) → output_form inputs t ≡ Ok n → (t ≡ headed (codes "output") (named_spelling n)) × (is_spelled_name n ≡ true)
-output_told inputs t n p =
-    let r = judged_ok (λ (m : List ℕ × PlainSort). is_new inputs m.0) (λ (m : List ℕ × PlainSort). is_allowed m.1) (named_form (codes "output") t) n p in
+pub output_told : (s : PlainSignature) (t : Plain) (n : List ℕ × PlainSort) → output_form s t ≡ Ok n → (t ≡ headed (codes "output") (named_spelling n)) × (is_spelled_name n ≡ true)
+output_told s t n p =
+    let r = judged_ok (λ (m : List ℕ × PlainSort). is_undeclared s m.0) (λ (m : List ℕ × PlainSort). is_allowed m.1) (named_form (codes "output") t) n p in
     named_told (codes "output") t n r.0 r.2
 
-pub record RequireTold (inputs : Names) (t : Plain) (c : PlainTerm) : Type 0 where
+pub record RequireTold (s : PlainSignature) (t : Plain) (c : PlainTerm) : Type 0 where
   pub tree : t ≡ headed (codes "require") (one (term_spelling c))
   pub spelled : is_spelled_term c ≡ true
-  pub sorted : sort_of [] inputs c ≡ Ok bools
+  pub sorted : sort_of s.definitions s.inputs c ≡ Ok bools
 
-pub require_told : (inputs : Names) (t : Plain) (c : PlainTerm) → require_form inputs t ≡ Ok c → RequireTold inputs t c
-require_told inputs t c p =
-    let r = judged_ok (λ (d : PlainTerm). true) (λ (d : PlainTerm). is_truth (sort_of [] inputs d)) (form (codes "require") t >>= single >>= spelled_term) c p in
+pub require_told : (s : PlainSignature) (t : Plain) (c : PlainTerm) → require_form s t ≡ Ok c → RequireTold s t c
+require_told s t c p =
+    let r = judged_ok (λ (d : PlainTerm). true) (λ (d : PlainTerm). is_truth (sort_of s.definitions s.inputs d)) (form (codes "require") t >>= single >>= spelled_term) c p in
     let n = bind_some (form (codes "require") t >>= single) spelled_term c r.0 in
-    let s = bind_some (form (codes "require") t) single n.0 n.1 in
-    let sorted = truth_sorted (sort_of [] inputs c) r.2 in
-    let k = term_told n.0 c n.2 (sorted_casts [] inputs c bools sorted) in
+    let o = bind_some (form (codes "require") t) single n.0 n.1 in
+    let sorted = truth_sorted (sort_of s.definitions s.inputs c) r.2 in
+    let k = term_told n.0 c n.2 (sorted_casts s.definitions s.inputs c bools sorted) in
     record {
-      tree = form_told (codes "require") t s.0 s.1 ∙ ap (headed (codes "require")) (single_told s.0 n.0 s.2 ∙ ap one k.tree);
+      tree = form_told (codes "require") t o.0 o.1 ∙ ap (headed (codes "require")) (single_told o.0 n.0 o.2 ∙ ap one k.tree);
       spelled = k.spelled;
       sorted = sorted;
     }
 
-pub record MainTold (inputs : Names) (s : PlainSort) (parameters : Option Names) (t : Plain) (main : PlainStmts) : Type 0 where
+pub record MainTold (s : PlainSignature) (a : PlainSort) (parameters : Option Names) (t : Plain) (main : PlainStmts) : Type 0 where
   pub tree : t ≡ headed (codes "main") (stmt_spellings main)
   pub spelled : are_spelled_stmts main ≡ true
-  pub obeys : obey (setting s parameters) inputs main ≡ true
+  pub obeys : obey (setting s.definitions a parameters) s.inputs main ≡ true
 
-pub main_told : (inputs : Names) (s : PlainSort) (parameters : Option Names) (t : Plain) (main : PlainStmts) → main_form inputs s parameters t ≡ Ok main → MainTold inputs s parameters t main
-main_told inputs s parameters t main p =
-    let r = judged_ok (λ (ss : PlainStmts). true) (λ (ss : PlainStmts). obey (setting s parameters) inputs ss) (form (codes "main") t >>= spelled_stmts) main p in
+pub main_told : (s : PlainSignature) (a : PlainSort) (parameters : Option Names) (t : Plain) (main : PlainStmts) → main_form s a parameters t ≡ Ok main → MainTold s a parameters t main
+main_told s a parameters t main p =
+    let g = setting s.definitions a parameters in
+    let r = judged_ok (λ (ss : PlainStmts). true) (main_sorted s a parameters) (form (codes "main") t >>= spelled_stmts) main p in
     let n = bind_some (form (codes "main") t) spelled_stmts main r.0 in
-    let k = stmts_told n.0 main n.2 (obey_casts (setting s parameters) inputs main r.2) in
+    let k = stmts_told n.0 main n.2 (obey_casts g s.inputs main r.2) in
     record { tree = form_told (codes "main") t n.0 n.1 ∙ ap (headed (codes "main")) k.trees; spelled = k.spelled; obeys = r.2 }
 
 parts_found : (us : Plains) (search : Names × PlainStmts) → search_parts us ≡ Some search
@@ -99,33 +102,33 @@ parts_found (more a rest) search p =
     let is : (m.0, m.1) ≡ search = m.4 in
     (a, rest, refl, m.2 ∙ ap (λ (q : Names × PlainStmts). Some q.0) is, m.3 ∙ ap (λ (q : Names × PlainStmts). Some q.1) is)
 
-proper : (taken ns : Names) → are_new taken ns ≡ true → are_allowed ns ≡ true → if_proper taken ns ≡ Some ns
-proper taken ns p q = ap (λ (b : Bool). if b then Some ns else None) (and_both (are_new taken ns) (are_allowed ns) p q)
+proper : (s : PlainSignature) (output : List ℕ × PlainSort) (ns : Names) → are_undeclared s output ns ≡ true → are_allowed ns ≡ true → if_proper s output ns ≡ Some ns
+proper s output ns p q = ap (λ (b : Bool). if b then Some ns else None) (and_both (are_undeclared s output ns) (are_allowed ns) p q)
 
-pub record SearchTold (inputs : Names) (output : List ℕ × PlainSort) (t : Plain) (search : Names × PlainStmts) : Type 0 where
+pub record SearchTold (s : PlainSignature) (output : List ℕ × PlainSort) (t : Plain) (search : Names × PlainStmts) : Type 0 where
   pub tree : t ≡ headed (codes "search") (more (list (names_spelling search.0)) (stmt_spellings search.1))
   pub parameters : list_all is_spelled_name search.0 ≡ true
   pub spelled : are_spelled_stmts search.1 ≡ true
   -- main sees these parameters
-  pub known : known_parameters (inputs ++ output ∷ []) (one t) ≡ Some search.0
-  pub obeys : obey (setting output.1 (Some search.0)) (search.0 ++ inputs) search.1 ≡ true
+  pub known : known_parameters s output (one t) ≡ Some search.0
+  pub obeys : obey (setting s.definitions output.1 (Some search.0)) (search.0 ++ s.inputs) search.1 ≡ true
 
-pub search_told : (inputs : Names) (output : List ℕ × PlainSort) (t : Plain) (search : Names × PlainStmts) → search_form inputs output t ≡ Ok search → SearchTold inputs output t search
-search_told inputs output t search p =
-    let taken = inputs ++ output ∷ [] in
-    let r = judged_ok (λ (q : Names × PlainStmts). are_new taken q.0) (search_sorted inputs output.1) (form (codes "search") t >>= search_parts) search p in
+pub search_told : (s : PlainSignature) (output : List ℕ × PlainSort) (t : Plain) (search : Names × PlainStmts) → search_form s output t ≡ Ok search → SearchTold s output t search
+search_told s output t search p =
+    let r = judged_ok (λ (q : Names × PlainStmts). are_undeclared s output q.0) (search_sorted s output.1) (form (codes "search") t >>= search_parts) search p in
     let n = bind_some (form (codes "search") t) search_parts search r.0 in
     let m = parts_found n.0 search n.2 in
-    let g = setting output.1 (Some search.0) in
-    let o = and_parts (are_allowed search.0) (obey g (search.0 ++ inputs) search.1) r.2 in
+    let g = setting s.definitions output.1 (Some search.0) in
+    let o = and_parts (are_allowed search.0) (obey g (search.0 ++ s.inputs) search.1) r.2 in
     let j = names_list_told m.0 search.0 m.3 o.0 in
-    let k = stmts_told m.1 search.1 m.4 (obey_casts g (search.0 ++ inputs) search.1 o.1) in
+    let k = stmts_told m.1 search.1 m.4 (obey_casts g (search.0 ++ s.inputs) search.1 o.1) in
     let d = j.0 in
     let e = k.trees in
     record {
       tree = form_told (codes "search") t n.0 n.1 ∙ ap (headed (codes "search")) (m.2 ∙ (λ i. more (d i) (e i)));
       parameters = j.1;
       spelled = k.spelled;
-      known = ap (λ (o : Option Plains). o >>= first_names >>= if_proper taken) (n.1 ∙ ap Some m.2) ∙ ap (λ (o : Option Names). o >>= if_proper taken) m.3 ∙ proper taken search.0 r.1 o.0;
+      known = ap (λ (o : Option Plains). o >>= first_names >>= if_proper s output) (n.1 ∙ ap Some m.2)
+          ∙ ap (λ (o : Option Names). o >>= if_proper s output) m.3 ∙ proper s output search.0 r.1 o.0;
       obeys = o.1;
     }

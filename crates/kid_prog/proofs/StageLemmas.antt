@@ -1,22 +1,32 @@
 -- One stage of loading after another.
-use Rattle.std.proofs.Common.{◌≡◌, ℕ, suc, ◌+◌, Bool, true, false, if◌then◌else◌, List, [], ◌∷◌, ◌++◌, length, Result, Ok, Err, sym, ap, ◌∙◌, arith}
+use Rattle.std.proofs.Common.{◌≡◌, ℕ, suc, ◌+◌, Bool, true, false, if◌then◌else◌, List, [], ◌∷◌, ◌++◌, length, Option, Some, None, Result, Ok, Err, refl, sym, ap, ◌∙◌, subst, arith}
 use Rattle.std.specs.Bool.{◌==◌}
+use Rattle.std.specs.Result.{IsErrAnd}
+use Rattle.kid_sexp.specs.Plain.{Plain, Plains, none, more, forest_len}
 use Rattle.kid_sexp.specs.declared.tree.Tree.{Tree}
 use Rattle.kid_sexp.specs.Tree.{plain, plains}
+use Rattle.kid_sexp.proofs.Forests.{plains_length}
 use Rattle.kid_value.specs.NameView.{plain_name}
 use Rattle.kid_value.specs.declared.sort.Sort.{Sort}
-use Rattle.kid_term.specs.Names.{Names}
+use Rattle.kid_term.specs.DefView.{plain_def}
+use Rattle.kid_term.specs.Names.{Names, PlainDef}
 use Rattle.kid_term.specs.PlainTerm.{PlainTerm}
 use Rattle.kid_term.specs.TermView.{plain_term}
 use Rattle.kid_term.specs.declared.Term.{Term}
+use Rattle.kid_term.specs.declared.definition.Def.{Def}
+use Rattle.kid_sorting.specs.PlainSignature.{PlainSignature}
+use Rattle.kid_codec.proofs.Found.{same_some}
 use Rattle.kid_prog.specs.PlainStmt.{PlainStmt, PlainStmts, stmt_row}
 use Rattle.kid_prog.specs.PlainProgram.{PlainProgram}
-use Rattle.kid_prog.specs.Forms.{is_input, input_form, require_form, output_form, search_form}
-use Rattle.kid_prog.specs.FormAnswers.{Judges}
-use Rattle.kid_prog.specs.StageAnswers.{numbered}
-use Rattle.kid_prog.specs.Loading.{Loaded, ◌>>=◌, refused, at, Heading, program_with, at_end, after_main, after_output, after_condition, after_inputs}
+use Rattle.kid_prog.specs.Forms.{is_def, def_form, is_input, input_form, require_form, output_form, search_form}
+use Rattle.kid_prog.specs.FormAnswers.{CodeFails, Judges}
+use Rattle.kid_prog.specs.StageAnswers.{fault_at, numbered}
+use Rattle.kid_prog.specs.Loading.{Loaded, ◌>>=◌, refused, at, Heading, program_with, at_end, after_main, after_output, after_condition, with_input, after_inputs, defined, next_definition, after_definitions, Fails, Loads}
 use Rattle.kid_prog.specs.declared.fault.LoadCode.{LoadCode}
 use Rattle.kid_prog.specs.declared.fault.LoadCode.TheVariants as code
+use Rattle.kid_prog.specs.declared.fault.LoadFault.{LoadFault}
+use Rattle.kid_prog.specs.ProgramView.{plain_program}
+use Rattle.kid_prog.specs.declared.program.Program.{Program}
 
 -- what a form holds is handed on
 passed : {X Y B : Type 0} (view : X → Y) (r : Result X LoadCode) (there : Result Y LoadCode) (k : ℕ) (x : X) (f : Y → Loaded B)
@@ -31,49 +41,129 @@ ended_not k p [] h = cc
 ended_not k p (t ∷ ts) h = let e : suc k ≡ k + 1 = omega arith in ap (λ j. refused j code.Form) e
 
 pub main-next : (k m : ℕ) (h : Heading) (main : PlainStmts) (trees rest : List Tree) (tree : Tree) (r : Result (Names × List PlainStmt) LoadCode) (s : Names × List PlainStmt) (p : PlainProgram)
-    → suc k ≡ m → trees ≡ tree ∷ rest → Judges (λ q. (q.0, stmt_row q.1)) r (search_form h.inputs h.output (plain tree)) → numbered m r ≡ Ok s
+    → suc k ≡ m → trees ≡ tree ∷ rest → Judges (λ q. (q.0, stmt_row q.1)) r (search_form h.signature h.output (plain tree)) → numbered m r ≡ Ok s
     → p ≡ program_with h main (s.0, stmt_row s.1)
     → after_main k h main (plains trees) ≡ at_end m p (plains rest)
 main-next k m h main trees rest tree r s p e are judged held is =
     ap (λ (ts : List Tree). after_main k h main (plains ts)) are
-    ∙ ap (λ j. at j (search_form h.inputs h.output (plain tree)) >>= λ search. at_end j (program_with h main search) (plains rest)) e
-    ∙ passed (λ q. (q.0, stmt_row q.1)) r (search_form h.inputs h.output (plain tree)) m s (λ search. at_end m (program_with h main search) (plains rest)) judged held
+    ∙ ap (λ j. at j (search_form h.signature h.output (plain tree)) >>= λ search. at_end j (program_with h main search) (plains rest)) e
+    ∙ passed (λ q. (q.0, stmt_row q.1)) r (search_form h.signature h.output (plain tree)) m s (λ search. at_end m (program_with h main search) (plains rest)) judged held
     ∙ ap (λ q. at_end m q (plains rest)) (sym is)
 
-pub condition-next : (k m : ℕ) (inputs : Names) (condition : PlainTerm) (trees rest : List Tree) (tree : Tree) (r : Result (List ℕ × Sort) LoadCode) (n : List ℕ × Sort)
-    → suc k ≡ m → trees ≡ tree ∷ rest → Judges plain_name r (output_form inputs (plain tree)) → numbered m r ≡ Ok n
-    → after_condition k inputs condition (plains trees) ≡ after_output m (record { inputs = inputs; condition = condition; output = plain_name n }) (plains rest)
-condition-next k m inputs condition trees rest tree r n e are judged held =
-    ap (λ (ts : List Tree). after_condition k inputs condition (plains ts)) are
-    ∙ ap (λ j. at j (output_form inputs (plain tree)) >>= λ output. after_output j (record { inputs = inputs; condition = condition; output = output }) (plains rest)) e
-    ∙ passed plain_name r (output_form inputs (plain tree)) m n (λ output. after_output m (record { inputs = inputs; condition = condition; output = output }) (plains rest)) judged held
+pub condition-next : (k m : ℕ) (s : PlainSignature) (condition : PlainTerm) (trees rest : List Tree) (tree : Tree) (r : Result (List ℕ × Sort) LoadCode) (n : List ℕ × Sort)
+    → suc k ≡ m → trees ≡ tree ∷ rest → Judges plain_name r (output_form s (plain tree)) → numbered m r ≡ Ok n
+    → after_condition k s condition (plains trees) ≡ after_output m (record { signature = s; condition = condition; output = plain_name n }) (plains rest)
+condition-next k m s condition trees rest tree r n e are judged held =
+    ap (λ (ts : List Tree). after_condition k s condition (plains ts)) are
+    ∙ ap (λ j. at j (output_form s (plain tree)) >>= λ output. after_output j (record { signature = s; condition = condition; output = output }) (plains rest)) e
+    ∙ passed plain_name r (output_form s (plain tree)) m n (λ output. after_output m (record { signature = s; condition = condition; output = output }) (plains rest)) judged held
 
 -- what the next of the forms after inputs leads to
-abbrev stage : ℕ → Names → Tree → List Tree → Bool → Loaded PlainProgram
-stage k inputs tree rest b =
+abbrev stage : ℕ → PlainSignature → Tree → List Tree → Bool → Loaded PlainProgram
+stage k s tree rest b =
     if b
-    then (at k (input_form inputs (plain tree)) >>= λ n. after_inputs k (inputs ++ n ∷ []) (plains rest))
-    else (at k (require_form inputs (plain tree)) >>= λ condition. after_condition k inputs condition (plains rest))
+    then (at k (input_form s (plain tree)) >>= λ n. after_inputs k (with_input s n) (plains rest))
+    else (at k (require_form s (plain tree)) >>= λ condition. after_condition k s condition (plains rest))
 
-staged : (k m : ℕ) (inputs : Names) (trees rest : List Tree) (tree : Tree) (b : Bool) → suc k ≡ m → trees ≡ tree ∷ rest → is_input (plain tree) ≡ b
-    → after_inputs k inputs (plains trees) ≡ stage m inputs tree rest b
-staged k m inputs trees rest tree b e are is =
-    ap (λ (ts : List Tree). after_inputs k inputs (plains ts)) are
-    ∙ ap (λ j. stage j inputs tree rest (is_input (plain tree))) e
-    ∙ ap (λ c. stage m inputs tree rest c) is
+staged : (k m : ℕ) (s : PlainSignature) (trees rest : List Tree) (tree : Tree) (b : Bool) → suc k ≡ m → trees ≡ tree ∷ rest → is_input (plain tree) ≡ b
+    → after_inputs k s (plains trees) ≡ stage m s tree rest b
+staged k m s trees rest tree b e are is =
+    ap (λ (ts : List Tree). after_inputs k s (plains ts)) are
+    ∙ ap (λ j. stage j s tree rest (is_input (plain tree))) e
+    ∙ ap (λ c. stage m s tree rest c) is
 
-pub input-next : (k m : ℕ) (inputs more : Names) (trees rest : List Tree) (tree : Tree) (r : Result (List ℕ × Sort) LoadCode) (n : List ℕ × Sort)
-    → suc k ≡ m → trees ≡ tree ∷ rest → is_input (plain tree) ≡ true → Judges plain_name r (input_form inputs (plain tree)) → numbered m r ≡ Ok n
-    → more ≡ inputs ++ plain_name n ∷ []
-    → after_inputs k inputs (plains trees) ≡ after_inputs m more (plains rest)
-input-next k m inputs more trees rest tree r n e are is judged held grown =
-    staged k m inputs trees rest tree true e are is
-    ∙ passed plain_name r (input_form inputs (plain tree)) m n (λ x. after_inputs m (inputs ++ x ∷ []) (plains rest)) judged held
-    ∙ ap (λ ns. after_inputs m ns (plains rest)) (sym grown)
+pub input-next : (k m : ℕ) (s with_one : PlainSignature) (trees rest : List Tree) (tree : Tree) (r : Result (List ℕ × Sort) LoadCode) (n : List ℕ × Sort)
+    → suc k ≡ m → trees ≡ tree ∷ rest → is_input (plain tree) ≡ true → Judges plain_name r (input_form s (plain tree)) → numbered m r ≡ Ok n
+    → with_one ≡ with_input s (plain_name n)
+    → after_inputs k s (plains trees) ≡ after_inputs m with_one (plains rest)
+input-next k m s with_one trees rest tree r n e are is judged held grown =
+    staged k m s trees rest tree true e are is
+    ∙ passed plain_name r (input_form s (plain tree)) m n (λ x. after_inputs m (with_input s x) (plains rest)) judged held
+    ∙ ap (λ z. after_inputs m z (plains rest)) (sym grown)
 
-pub require-next : (k m : ℕ) (inputs : Names) (trees rest : List Tree) (tree : Tree) (r : Result Term LoadCode) (t : Term)
-    → suc k ≡ m → trees ≡ tree ∷ rest → is_input (plain tree) ≡ false → Judges plain_term r (require_form inputs (plain tree)) → numbered m r ≡ Ok t
-    → after_inputs k inputs (plains trees) ≡ after_condition m inputs (plain_term t) (plains rest)
-require-next k m inputs trees rest tree r t e are is judged held =
-    staged k m inputs trees rest tree false e are is
-    ∙ passed plain_term r (require_form inputs (plain tree)) m t (λ condition. after_condition m inputs condition (plains rest)) judged held
+pub require-next : (k m : ℕ) (s : PlainSignature) (trees rest : List Tree) (tree : Tree) (r : Result Term LoadCode) (t : Term)
+    → suc k ≡ m → trees ≡ tree ∷ rest → is_input (plain tree) ≡ false → Judges plain_term r (require_form s (plain tree)) → numbered m r ≡ Ok t
+    → after_inputs k s (plains trees) ≡ after_condition m s (plain_term t) (plains rest)
+require-next k m s trees rest tree r t e are is judged held =
+    staged k m s trees rest tree false e are is
+    ∙ passed plain_term r (require_form s (plain tree)) m t (λ condition. after_condition m s condition (plains rest)) judged held
+
+-- where the next form begins as a definition does
+abbrev picked : Bool → Plain → Plains → Option (Plain × Plains)
+picked b t ts = if b then Some (t, ts) else None
+
+split : (b : Bool) (t u : Plain) (ts us : Plains) → picked b t ts ≡ Some (u, us) → (b ≡ true) × (t ≡ u) × (ts ≡ us)
+split true t u ts us e =
+    let found : Plain × Plains = (t, ts) in
+    let wanted : Plain × Plains = (u, us) in
+    let one = same_some found wanted e in
+    (refl, ap (λ (p : Plain × Plains). p.0) one, ap (λ (p : Plain × Plains). p.1) one)
+split false t u ts us e = cc
+
+stopped : (b : Bool) (t : Plain) (ts : Plains) → picked b t ts ≡ None → b ≡ false
+stopped true t ts e = cc
+stopped false t ts e = refl
+
+-- it stands before one tree fewer
+pub next-counts : (trees rest : List Tree) (t : Plain) → Some (t, plains rest) ≡ next_definition (plains trees) → length trees ≡ suc (length rest)
+next-counts [] rest t e = cc
+next-counts (u ∷ us) rest t e =
+    let r = split (is_def (plain u)) (plain u) t (plains us) (plains rest) (sym e) in
+    ap suc (sym (plains_length us) ∙ ap forest_len r.2 ∙ plains_length rest)
+
+-- what the form that begins as a definition does leads to
+abbrev step : ℕ → List PlainDef → Plain → Plains → Bool → Loaded PlainProgram
+step k defs t ts b =
+    if b
+    then (at (suc k) (def_form defs t) >>= λ d. after_definitions (suc k) (defs ++ d ∷ []) ts)
+    else after_inputs k (defined defs) (more t ts)
+
+def_staged : (k : ℕ) (defs : List PlainDef) (ts us : Plains) (t : Plain) → next_definition ts ≡ Some (t, us)
+    → after_definitions k defs ts ≡ (at (suc k) (def_form defs t) >>= λ d. after_definitions (suc k) (defs ++ d ∷ []) us)
+def_staged k defs none us t e = cc
+def_staged k defs (more u vs) us t e =
+    let r = split (is_def u) u t vs us e in
+    ap (λ b. step k defs u vs b) r.0 ∙ ap (λ v. step k defs v vs true) r.1 ∙ ap (λ ws. step k defs t ws true) r.2
+
+pub def-next : (k m : ℕ) (defs grown : List PlainDef) (trees rest : Plains) (tree : Tree) (r : Result Def LoadCode) (d : Def)
+    → suc k ≡ m → Some (plain tree, rest) ≡ next_definition trees → Judges plain_def r (def_form defs (plain tree)) → numbered m r ≡ Ok d
+    → grown ≡ defs ++ plain_def d ∷ []
+    → after_definitions k defs trees ≡ after_definitions m grown rest
+def-next k m defs grown trees rest tree r d e are judged held is =
+    def_staged k defs trees rest (plain tree) (sym are)
+    ∙ ap (λ j. at j (def_form defs (plain tree)) >>= λ x. after_definitions j (defs ++ x ∷ []) rest) e
+    ∙ passed plain_def r (def_form defs (plain tree)) m d (λ x. after_definitions m (defs ++ x ∷ []) rest) judged held
+    ∙ ap (λ ds. after_definitions m ds rest) (sym is)
+
+-- a refusal of a form is one of the file
+refusing : {Y B : Type 0} (m : ℕ) (c : LoadCode) (there : Result Y LoadCode) (f : Y → Loaded B) → CodeFails c there → Fails (fault_at m c) (fault_at m c).code (at m there >>= f)
+refusing m code.Large there f e = ap (λ o. at m o >>= f) e
+refusing m code.Read there f e = ap (λ o. at m o >>= f) e
+refusing m code.Version there f e = ap (λ o. at m o >>= f) e
+refusing m code.Form there f e = ap (λ o. at m o >>= f) e
+refusing m code.Sort there f e = ap (λ o. at m o >>= f) e
+refusing m code.Memory there f e = tt
+
+judged_refused : {X Y B : Type 0} (view : X → Y) (m : ℕ) (r : Result X LoadCode) (there : Result Y LoadCode) (f : Y → Loaded B) (fault : LoadFault)
+    → Judges view r there → numbered m r ≡ Err fault → Fails fault fault.code (at m there >>= f)
+judged_refused view m (Ok x) there f fault judged held = cc
+judged_refused view m (Err c) there f fault judged held =
+    let same : fault_at m c ≡ fault = cc in
+    subst (λ (z : LoadFault). Fails z z.code (at m there >>= f)) same (refusing m c there f judged)
+
+-- a fault that is handed on
+pub handed-on : (r : Result Program LoadFault) (fault : LoadFault) (whole : Loaded PlainProgram) → IsErrAnd r (λ e. e ≡ fault) → Fails fault fault.code whole → Loads plain_program r whole
+handed-on (Ok p) fault whole h f = absurd h
+handed-on (Err e) fault whole h f = subst (λ (z : LoadFault). Fails z z.code whole) (sym h) f
+
+pub def-refused : (k m : ℕ) (defs : List PlainDef) (trees rest : Plains) (tree : Tree) (r : Result Def LoadCode) (fault : LoadFault) (whole : Loaded PlainProgram)
+    → suc k ≡ m → Some (plain tree, rest) ≡ next_definition trees → Judges plain_def r (def_form defs (plain tree)) → numbered m r ≡ Err fault
+    → after_definitions k defs trees ≡ whole → Fails fault fault.code whole
+def-refused k m defs trees rest tree r fault whole e are judged held told =
+    let is = sym (def_staged k defs trees rest (plain tree) (sym are) ∙ ap (λ j. at j (def_form defs (plain tree)) >>= λ x. after_definitions j (defs ++ x ∷ []) rest) e) ∙ told in
+    subst (λ o. Fails fault fault.code o) is (judged_refused plain_def m r (def_form defs (plain tree)) (λ x. after_definitions m (defs ++ x ∷ []) rest) fault judged held)
+
+-- where it does not, the inputs come
+pub def-last : (k : ℕ) (defs : List PlainDef) (ts : Plains) → None ≡ next_definition ts → after_definitions k defs ts ≡ after_inputs k (defined defs) ts
+def-last k defs none e = refl
+def-last k defs (more t ts) e = ap (λ b. step k defs t ts b) (stopped (is_def t) t ts (sym e))

@@ -14,8 +14,13 @@ use Rattle.kid_value.specs.PlainSort.{in_limits}
 use Rattle.kid_value.proofs.SortLemmas.{and_parts, and_both, list_all-weaker}
 use Rattle.kid_term.specs.declared.operator.LogicOp.TheVariants as logic
 use Rattle.kid_term.specs.declared.operator.NumberOp.TheVariants as num
+use Rattle.kid_term.specs.declared.operator.PairOp.TheVariants as pair_op
+use Rattle.kid_term.specs.declared.operator.SetOp.TheVariants as set_op
+use Rattle.kid_term.specs.declared.operator.SeqOp.TheVariants as seq_op
+use Rattle.kid_term.specs.declared.operator.MapOp.TheVariants as map_op
+use Rattle.kid_term.specs.declared.operator.WordOp.TheVariants as row_op
 use Rattle.kid_term.specs.declared.operator.Op.{Op}
-use Rattle.kid_term.specs.declared.operator.Op.TheVariants.{Logic, Number}
+use Rattle.kid_term.specs.declared.operator.Op.TheVariants.{Logic, Number, Pair, Set, Seq, Map, Word}
 use Rattle.kid_term.specs.declared.operator.Binder.{Binder}
 use Rattle.kid_term.specs.declared.operator.Binder.TheVariants as binder
 use Rattle.kid_codec.specs.Name.{is_letter, is_digit, is_name_byte, is_reserved, starts_with_letter, is_name}
@@ -103,6 +108,52 @@ op_word (Number num.Div) = refl
 op_word (Number num.Mod) = refl
 op_word (Number num.Min) = refl
 op_word (Number num.Max) = refl
+op_word (Pair pair_op.Pair) = refl
+op_word (Pair pair_op.Fst) = refl
+op_word (Pair pair_op.Snd) = refl
+op_word (Set set_op.Set) = refl
+op_word (Set set_op.Range) = refl
+op_word (Set set_op.In) = refl
+op_word (Set set_op.Subset) = refl
+op_word (Set set_op.Union) = refl
+op_word (Set set_op.With) = refl
+op_word (Set set_op.Inter) = refl
+op_word (Set set_op.Diff) = refl
+op_word (Set set_op.Without) = refl
+op_word (Set set_op.Card) = refl
+op_word (Set set_op.Sum) = refl
+op_word (Set set_op.Least) = refl
+op_word (Seq seq_op.Seq) = refl
+op_word (Seq seq_op.Len) = refl
+op_word (Seq seq_op.At) = refl
+op_word (Seq seq_op.Snoc) = refl
+op_word (Seq seq_op.Rest) = refl
+op_word (Seq seq_op.Items) = refl
+op_word (Seq seq_op.Total) = refl
+op_word (Seq seq_op.Prefix) = refl
+op_word (Map map_op.Map) = refl
+op_word (Map map_op.Dom) = refl
+op_word (Map map_op.Ran) = refl
+op_word (Map map_op.Get) = refl
+op_word (Map map_op.Put) = refl
+op_word (Map map_op.Drop) = refl
+op_word (Map map_op.Fill) = refl
+op_word (Map map_op.Submap) = refl
+op_word (Map map_op.Fits) = refl
+op_word (Map map_op.Narrow) = refl
+op_word (Word row_op.Wenc) = refl
+op_word (Word row_op.Wdec) = refl
+op_word (Word row_op.Wor) = refl
+op_word (Word row_op.Wand) = refl
+op_word (Word row_op.Wnot) = refl
+op_word (Word row_op.Wcard) = refl
+op_word (Word row_op.Win) = refl
+op_word (Word row_op.Wleast) = refl
+op_word (Word row_op.Renc) = refl
+op_word (Word row_op.Rdec) = refl
+op_word (Word row_op.Rget) = refl
+op_word (Word row_op.Rput) = refl
+op_word (Word row_op.Rdrop) = refl
 
 pub binder_is_word : (b : Binder) → is_word (binder_word b) ≡ true
 binder_is_word binder.All = refl

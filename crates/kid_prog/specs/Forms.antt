@@ -1,18 +1,20 @@
 -- The forms of a program file: what each holds by its shape, and the rules that it meets.
-use Rattle.std.specs.Prelude.{ℕ, ℤ, pos, nat_lt, Bool, true, false, not, ◌&&◌, List, [], ◌∷◌, ◌++◌, length, Option, Some, None, Result, Ok, Err, if◌then◌else◌, codes}
+use Rattle.std.specs.Prelude.{ℕ, ℤ, pos, nat_lt, Bool, true, false, ◌&&◌, List, [], ◌∷◌, ◌++◌, length, Option, Some, None, Result, Ok, Err, if◌then◌else◌, codes}
 use Rattle.std.specs.Ordering.{int_eq}
 use Rattle.kid_sexp.specs.Plain.{Plain, Plains, atom, list, none, more}
 use Rattle.kid_value.specs.PlainSort.{PlainSort, both, is_allowed}
 use Rattle.kid_term.specs.PlainTerm.{PlainTerm}
-use Rattle.kid_term.specs.Names.{Names, is_named}
+use Rattle.kid_term.specs.Names.{Names, PlainDef}
 use Rattle.kid_term.specs.Sorting.{sort_of}
+use Rattle.kid_sorting.specs.Declaring.{is_new, are_new, are_allowed, is_truth, is_sorted_definition, is_shallow, is_undefined}
+use Rattle.kid_sorting.specs.PlainSignature.{PlainSignature}
 use Rattle.kid_codec.specs.Reading.{◌>>=◌}
-use Rattle.kid_codec.specs.Shape.{form, single, couple}
+use Rattle.kid_codec.specs.Shape.{form, single, couple, quadruple}
 use Rattle.kid_codec.specs.SortSpelling.{spelled_number, spelled_sort}
 use Rattle.kid_codec.specs.TermSpelling.{spelled_name, spelled_term}
 use Rattle.kid_prog.specs.PlainStmt.{PlainStmts}
 use Rattle.kid_prog.specs.StmtShape.{spelled_stmts}
-use Rattle.kid_prog.specs.Rules.{Setting, is_truth, obey}
+use Rattle.kid_prog.specs.Rules.{Setting, obey}
 use Rattle.kid_prog.specs.declared.fault.LoadCode.{LoadCode}
 use Rattle.kid_prog.specs.declared.fault.LoadCode.TheVariants as code
 
@@ -41,19 +43,6 @@ abbrev pub names_list : Plain → Option Names
 names_list (atom w) = None
 names_list (list ts) = spelled_names ts
 
--- a name that none of these has
-abbrev pub is_new : Names → List ℕ → Bool
-is_new taken x = not (is_named x taken)
-
--- names that none of these has, nor two of them
-abbrev pub are_new : Names → Names → Bool
-are_new taken [] = true
-are_new taken (n ∷ ns) = is_new taken n.0 && are_new (taken ++ n ∷ []) ns
-
-abbrev pub are_allowed : Names → Bool
-are_allowed [] = true
-are_allowed (n ∷ ns) = is_allowed n.1 && are_allowed ns
-
 -- ---- (program 1)
 
 abbrev pub version_of : Option ℤ → Result (Unit {0}) LoadCode
@@ -63,54 +52,92 @@ version_of (Some n) = if int_eq n (pos 1) then Ok tt else Err code.Version
 abbrev pub version_form : Plain → Result (Unit {0}) LoadCode
 version_form t = version_of (form (codes "program") t >>= single >>= spelled_number)
 
+-- whether the tree begins with the word
+abbrev pub is_form : List ℕ → Plain → Bool
+is_form word t = is_there (form word t)
+  where
+    is_there : Option Plains → Bool
+    is_there None = false
+    is_there (Some ts) = true
+
+-- ---- (def NAME ((NAME SORT) ..) SORT TERM)
+
+abbrev pub is_def : Plain → Bool
+is_def t = is_form (codes "def") t
+
+abbrev pub definition : List ℕ → Names → PlainSort → PlainTerm → PlainDef
+definition f ps s t = record { name = f; parameters = ps; sort = s; body = t }
+
+abbrev pub def_parts : Plains → Option PlainDef
+def_parts ts = quadruple ts >>= λ q. spelled_name q.0 >>= λ f. names_list q.1 >>= λ ps. both (definition f ps) (spelled_sort q.2) (spelled_term q.3)
+
+-- a new name, parameters that differ from one another, and calls that do not go too deep
+abbrev pub is_formed_definition : List PlainDef → PlainDef → Bool
+is_formed_definition defs d = is_undefined d.name defs && are_new [] d.parameters && is_shallow defs d
+
+-- after these definitions
+abbrev pub def_form : List PlainDef → Plain → Result PlainDef LoadCode
+def_form defs t = judged (is_formed_definition defs) (is_sorted_definition defs) (form (codes "def") t >>= def_parts)
+
 -- ---- (input NAME SORT)
+
+abbrev pub is_input : Plain → Bool
+is_input t = is_form (codes "input") t
+
+-- a name that no definition and no input has
+abbrev pub is_undeclared : PlainSignature → List ℕ → Bool
+is_undeclared s x = is_undefined x s.definitions && is_new s.inputs x
 
 -- the shape of a form of a word, a name and a sort
 abbrev pub named_form : List ℕ → Plain → Option (List ℕ × PlainSort)
 named_form word t = form word t >>= named_pair
 
--- after these inputs, of which there are at most 16
-abbrev pub input_form : Names → Plain → Result (List ℕ × PlainSort) LoadCode
-input_form inputs t =
-    judged (λ n. is_new inputs n.0 && nat_lt (length inputs) 16) (λ n. is_allowed n.1) (named_form (codes "input") t)
-
-abbrev pub is_input : Plain → Bool
-is_input t = has_word (form (codes "input") t)
-  where
-    has_word : Option Plains → Bool
-    has_word None = false
-    has_word (Some ts) = true
+-- after these definitions and inputs, of which there are at most 16
+abbrev pub input_form : PlainSignature → Plain → Result (List ℕ × PlainSort) LoadCode
+input_form s t =
+    judged (λ n. is_undeclared s n.0 && nat_lt (length s.inputs) 16) (λ n. is_allowed n.1) (named_form (codes "input") t)
 
 -- ---- (require TERM)
 
-abbrev pub require_form : Names → Plain → Result PlainTerm LoadCode
-require_form inputs t =
-    judged (λ c. true) (λ c. is_truth (sort_of [] inputs c)) (form (codes "require") t >>= single >>= spelled_term)
+abbrev pub require_form : PlainSignature → Plain → Result PlainTerm LoadCode
+require_form s t =
+    judged (λ c. true) (λ c. is_truth (sort_of s.definitions s.inputs c)) (form (codes "require") t >>= single >>= spelled_term)
 
 -- ---- (output NAME SORT)
 
-abbrev pub output_form : Names → Plain → Result (List ℕ × PlainSort) LoadCode
-output_form inputs t = judged (λ n. is_new inputs n.0) (λ n. is_allowed n.1) (named_form (codes "output") t)
+abbrev pub output_form : PlainSignature → Plain → Result (List ℕ × PlainSort) LoadCode
+output_form s t = judged (λ n. is_undeclared s n.0) (λ n. is_allowed n.1) (named_form (codes "output") t)
 
 -- ---- (main STATEMENT ..), which calls the search procedure of the next form, where its parameters are there and not refused
+
+-- no definition has one of the names
+abbrev pub are_undefined : Names → List PlainDef → Bool
+are_undefined [] defs = true
+are_undefined (n ∷ ns) defs = is_undefined n.0 defs && are_undefined ns defs
+
+-- names that differ from one another, from definitions and inputs, and from the output
+abbrev pub are_undeclared : PlainSignature → List ℕ × PlainSort → Names → Bool
+are_undeclared s output ns = are_undefined ns s.definitions && are_new (s.inputs ++ output ∷ []) ns
 
 abbrev pub first_names : Plains → Option Names
 first_names none = None
 first_names (more t ts) = names_list t
 
-abbrev pub if_proper : Names → Names → Option Names
-if_proper taken ns = if are_new taken ns && are_allowed ns then Some ns else None
+abbrev pub if_proper : PlainSignature → List ℕ × PlainSort → Names → Option Names
+if_proper s output ns = if are_undeclared s output ns && are_allowed ns then Some ns else None
 
-abbrev pub known_parameters : Names → Plains → Option Names
-known_parameters taken none = None
-known_parameters taken (more t ts) = form (codes "search") t >>= first_names >>= if_proper taken
+abbrev pub known_parameters : PlainSignature → List ℕ × PlainSort → Plains → Option Names
+known_parameters s output none = None
+known_parameters s output (more t ts) = form (codes "search") t >>= first_names >>= if_proper s output
 
-abbrev pub setting : PlainSort → Option Names → Setting
-setting s parameters = record { definitions = []; sort = s; parameters = parameters }
+abbrev pub setting : List PlainDef → PlainSort → Option Names → Setting
+setting defs s parameters = record { definitions = defs; sort = s; parameters = parameters }
 
-abbrev pub main_form : Names → PlainSort → Option Names → Plain → Result PlainStmts LoadCode
-main_form inputs s parameters t =
-    judged (λ ss. true) (λ ss. obey (setting s parameters) inputs ss) (form (codes "main") t >>= spelled_stmts)
+abbrev pub main_sorted : PlainSignature → PlainSort → Option Names → PlainStmts → Bool
+main_sorted s output_sort parameters ss = obey (setting s.definitions output_sort parameters) s.inputs ss
+
+abbrev pub main_form : PlainSignature → PlainSort → Option Names → Plain → Result PlainStmts LoadCode
+main_form s output_sort parameters t = judged (λ ss. true) (main_sorted s output_sort parameters) (form (codes "main") t >>= spelled_stmts)
 
 -- ---- (search ((NAME SORT) ..) STATEMENT ..)
 
@@ -118,10 +145,10 @@ abbrev pub search_parts : Plains → Option (Names × PlainStmts)
 search_parts none = None
 search_parts (more t ts) = both (λ ns ss. (ns, ss)) (names_list t) (spelled_stmts ts)
 
-abbrev pub search_sorted : Names → PlainSort → Names × PlainStmts → Bool
-search_sorted inputs s p = are_allowed p.0 && obey (setting s (Some p.0)) (p.0 ++ inputs) p.1
+abbrev pub search_sorted : PlainSignature → PlainSort → Names × PlainStmts → Bool
+search_sorted s output_sort p = are_allowed p.0 && obey (setting s.definitions output_sort (Some p.0)) (p.0 ++ s.inputs) p.1
 
--- after inputs and an output
-abbrev pub search_form : Names → List ℕ × PlainSort → Plain → Result (Names × PlainStmts) LoadCode
-search_form inputs output t =
-    judged (λ p. are_new (inputs ++ output ∷ []) p.0) (search_sorted inputs output.1) (form (codes "search") t >>= search_parts)
+-- after definitions, inputs and an output
+abbrev pub search_form : PlainSignature → List ℕ × PlainSort → Plain → Result (Names × PlainStmts) LoadCode
+search_form s output t =
+    judged (λ p. are_undeclared s output p.0) (search_sorted s output.1) (form (codes "search") t >>= search_parts)

@@ -1,14 +1,15 @@
 -- The program that a file spells, or the first form that is refused.
-use Rattle.std.specs.Prelude.{◌≡◌, ℕ, suc, nat_le, List, [], ◌∷◌, ◌++◌, length, Result, Ok, Err, if◌then◌else◌, ⊤}
-use Rattle.kid_sexp.specs.Plain.{Plains, none, more}
+use Rattle.std.specs.Prelude.{◌≡◌, ℕ, suc, nat_le, List, [], ◌∷◌, ◌++◌, length, Option, Some, None, Result, Ok, Err, if◌then◌else◌, ⊤}
+use Rattle.kid_sexp.specs.Plain.{Plain, Plains, none, more}
 use Rattle.kid_sexp.specs.Brackets.{Fault}
 use Rattle.kid_sexp.specs.Reading.{reading}
 use Rattle.kid_value.specs.PlainSort.{PlainSort}
 use Rattle.kid_term.specs.PlainTerm.{PlainTerm}
-use Rattle.kid_term.specs.Names.{Names}
+use Rattle.kid_term.specs.Names.{Names, PlainDef}
+use Rattle.kid_sorting.specs.PlainSignature.{PlainSignature}
 use Rattle.kid_prog.specs.PlainStmt.{PlainStmts}
 use Rattle.kid_prog.specs.PlainProgram.{PlainProgram}
-use Rattle.kid_prog.specs.Forms.{version_form, is_input, input_form, require_form, output_form, known_parameters, main_form, search_form}
+use Rattle.kid_prog.specs.Forms.{version_form, is_def, def_form, is_input, input_form, require_form, output_form, known_parameters, main_form, search_form}
 use Rattle.kid_prog.specs.declared.fault.LoadCode.{LoadCode}
 use Rattle.kid_prog.specs.declared.fault.LoadCode.TheVariants as code
 use Rattle.kid_prog.specs.declared.fault.LoadFault.{LoadFault}
@@ -31,14 +32,14 @@ at k (Err c) = refused k c
 
 -- what the forms before main hold
 pub record Heading : Type 0 where
-  pub inputs : Names
+  pub signature : PlainSignature
   pub condition : PlainTerm
   pub output : List ℕ × PlainSort
 
 abbrev pub program_with : Heading → PlainStmts → Names × PlainStmts → PlainProgram
 program_with h main search = record {
-  definitions = [];
-  inputs = h.inputs;
+  definitions = h.signature.definitions;
+  inputs = h.signature.inputs;
   condition = h.condition;
   output = h.output.0;
   sort = h.output.1;
@@ -57,32 +58,53 @@ at_end k p (more t ts) = refused (suc k) code.Form
 abbrev pub after_main : ℕ → Heading → PlainStmts → Plains → Loaded PlainProgram
 after_main k h main none = refused (suc k) code.Form
 after_main k h main (more t ts) =
-    at (suc k) (search_form h.inputs h.output t) >>= λ search. at_end (suc k) (program_with h main search) ts
+    at (suc k) (search_form h.signature h.output t) >>= λ search. at_end (suc k) (program_with h main search) ts
 
 abbrev pub after_output : ℕ → Heading → Plains → Loaded PlainProgram
 after_output k h none = refused (suc k) code.Form
 after_output k h (more t ts) =
-    at (suc k) (main_form h.inputs h.output.1 (known_parameters (h.inputs ++ h.output ∷ []) ts) t)
+    at (suc k) (main_form h.signature h.output.1 (known_parameters h.signature h.output ts) t)
     >>= λ main. after_main (suc k) h main ts
 
-abbrev pub after_condition : ℕ → Names → PlainTerm → Plains → Loaded PlainProgram
-after_condition k inputs condition none = refused (suc k) code.Form
-after_condition k inputs condition (more t ts) =
-    at (suc k) (output_form inputs t)
-    >>= λ output. after_output (suc k) (record { inputs = inputs; condition = condition; output = output }) ts
+abbrev pub after_condition : ℕ → PlainSignature → PlainTerm → Plains → Loaded PlainProgram
+after_condition k s condition none = refused (suc k) code.Form
+after_condition k s condition (more t ts) =
+    at (suc k) (output_form s t)
+    >>= λ output. after_output (suc k) (record { signature = s; condition = condition; output = output }) ts
 
--- after these inputs
-abbrev pub after_inputs : ℕ → Names → Plains → Loaded PlainProgram
-after_inputs k inputs none = refused (suc k) code.Form
-after_inputs k inputs (more t ts) =
+-- the signature with one more input
+abbrev pub with_input : PlainSignature → List ℕ × PlainSort → PlainSignature
+with_input s n = record s { inputs = s.inputs ++ n ∷ [] }
+
+-- after these definitions and inputs
+abbrev pub after_inputs : ℕ → PlainSignature → Plains → Loaded PlainProgram
+after_inputs k s none = refused (suc k) code.Form
+after_inputs k s (more t ts) =
     if is_input t
-    then (at (suc k) (input_form inputs t) >>= λ n. after_inputs (suc k) (inputs ++ n ∷ []) ts)
-    else (at (suc k) (require_form inputs t) >>= λ condition. after_condition (suc k) inputs condition ts)
+    then (at (suc k) (input_form s t) >>= λ n. after_inputs (suc k) (with_input s n) ts)
+    else (at (suc k) (require_form s t) >>= λ condition. after_condition (suc k) s condition ts)
+
+-- definitions and no inputs
+abbrev pub defined : List PlainDef → PlainSignature
+defined defs = record { definitions = defs; inputs = [] }
+
+-- the first form and those after it, where it begins as a definition does
+abbrev pub next_definition : Plains → Option (Plain × Plains)
+next_definition none = None
+next_definition (more t ts) = if is_def t then Some (t, ts) else None
+
+-- after these definitions
+abbrev pub after_definitions : ℕ → List PlainDef → Plains → Loaded PlainProgram
+after_definitions k defs none = refused (suc k) code.Form
+after_definitions k defs (more t ts) =
+    if is_def t
+    then (at (suc k) (def_form defs t) >>= λ d. after_definitions (suc k) (defs ++ d ∷ []) ts)
+    else after_inputs k (defined defs) (more t ts)
 
 -- the forms of a program
 abbrev pub program_from : Plains → Loaded PlainProgram
 program_from none = refused 1 code.Form
-program_from (more t ts) = at 1 (version_form t) >>= λ _. after_inputs 1 [] ts
+program_from (more t ts) = at 1 (version_form t) >>= λ _. after_definitions 1 [] ts
 
 abbrev pub from_forest : Result Plains Fault → Loaded PlainProgram
 from_forest (Err fault) = refused 0 code.Read

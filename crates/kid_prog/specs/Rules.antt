@@ -1,11 +1,12 @@
 -- The rules of sorts that a program meets.
 use Rattle.std.specs.Prelude.{◌≡◌, ℕ, Bool, true, false, not, ◌&&◌, List, [], ◌∷◌, ◌++◌, Option, Some, None, Result, Ok, Err}
-use Rattle.kid_value.specs.PlainSort.{PlainSort, bools, sets, is_subsort, is_allowed}
+use Rattle.kid_value.specs.PlainSort.{PlainSort, bools, sets, is_allowed}
 use Rattle.kid_term.specs.PlainTerm.{PlainTerm}
 use Rattle.kid_term.specs.Names.{Names, is_named, PlainDef}
 use Rattle.kid_term.specs.Sorted.{Fault, Sorted, ◌>>=◌}
 use Rattle.kid_term.specs.Sorting.{sort_of, fit_parameters}
 use Rattle.kid_term.specs.Fitting.{AreAllowed, AreSound}
+use Rattle.kid_sorting.specs.Declaring.{with_name, is_truth, is_within}
 use Rattle.kid_prog.specs.PlainStmt.{assign, when, each, emit, call, PlainStmts, no_stmt, stmt}
 use Rattle.kid_prog.specs.PlainProgram.{PlainProgram}
 
@@ -14,15 +15,6 @@ pub record Setting : Type 0 where
   pub definitions : List PlainDef
   pub sort : PlainSort
   pub parameters : Option Names
-
-abbrev pub is_truth : Sorted → Bool
-is_truth (Ok bools) = true
-is_truth r = false
-
--- the term's sort lies within this one
-abbrev pub is_within : PlainSort → Sorted → Bool
-is_within s (Ok a) = is_subsort a s
-is_within s (Err fault) = false
 
 -- the sorts of terms, each of which keeps the limits of a term for itself
 abbrev pub sorts_of : List PlainDef → Names → List PlainTerm → Result (List PlainSort) Fault
@@ -34,10 +26,6 @@ abbrev pub call_fits : Option Names → Result (List PlainSort) Fault → Bool
 call_fits parameters (Err fault) = false
 call_fits None (Ok ss) = true
 call_fits (Some ps) (Ok ss) = fit_parameters ps ss
-
--- a further name, which is the last to be looked for
-abbrev pub with_name : Names → List ℕ → PlainSort → Names
-with_name names x s = names ++ (x, s) ∷ []
 
 -- a name that is new has the term's sort
 abbrev pub binds : Names → List ℕ → Sorted → (Names → Bool) → Bool

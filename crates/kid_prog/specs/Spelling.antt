@@ -6,7 +6,8 @@ use Rattle.kid_value.specs.PlainSort.{PlainSort}
 use Rattle.kid_term.specs.PlainTerm.{PlainTerm, term_row}
 use Rattle.kid_term.specs.Names.{Names, PlainDef}
 use Rattle.kid_codec.specs.Name.{is_name}
-use Rattle.kid_codec.specs.SortSpelling.{number_tree, headed, sort_spelling, is_spelled_sort}
+use Rattle.kid_codec.specs.SortSpelling.{number_tree, headed, sort_spelling}
+pub use Rattle.kid_codec.specs.DeclaredSpelling.{is_spelled_name, is_spelled_definition}
 use Rattle.kid_codec.specs.TermSpelling.{term_spelling, term_spellings, is_spelled_term, are_spelled_terms}
 use Rattle.kid_prog.specs.PlainStmt.{PlainStmt, assign, when, each, emit, call, PlainStmts, no_stmt, stmt}
 use Rattle.kid_prog.specs.PlainProgram.{PlainProgram}
@@ -70,12 +71,6 @@ abbrev mutual
   pub are_spelled_stmts : PlainStmts → Bool
   are_spelled_stmts no_stmt = true
   are_spelled_stmts (stmt s ss) = is_spelled_stmt s && are_spelled_stmts ss
-
-abbrev pub is_spelled_name : List ℕ × PlainSort → Bool
-is_spelled_name n = is_name n.0 && is_spelled_sort n.1
-
-abbrev pub is_spelled_definition : PlainDef → Bool
-is_spelled_definition d = is_name d.name && list_all is_spelled_name d.parameters && is_spelled_sort d.sort && is_spelled_term d.body
 
 abbrev pub is_spelled_program : PlainProgram → Bool
 is_spelled_program p =

@@ -18,4 +18,4 @@ numbered k (Ok x) = Ok x
 numbered k (Err c) = Err (fault_at k c)
 
 abbrev pub plain_heading : Heading → plain.Heading
-plain_heading h = record { inputs = h.inputs; condition = plain_term h.condition; output = (h.output, plain_sort h.sort) }
+plain_heading h = record { signature = h.signature; condition = plain_term h.condition; output = (h.output, plain_sort h.sort) }

@@ -5,8 +5,9 @@ use Rattle.kid_term.specs.PlainTerm.{PlainTerm}
 use Rattle.kid_term.specs.Names.{Names, is_named}
 use Rattle.kid_term.specs.Sorted.{Sorted}
 use Rattle.kid_term.specs.Sorting.{sort_of}
+use Rattle.kid_sorting.specs.Declaring.{with_name, is_truth, is_within}
 use Rattle.kid_prog.specs.PlainStmt.{PlainStmt, assign, when, each, emit, call, PlainStmts}
-use Rattle.kid_prog.specs.Rules.{Setting, is_truth, is_within, sorts_of, call_fits, with_name, obey}
+use Rattle.kid_prog.specs.Rules.{Setting, sorts_of, call_fits, obey}
 
 -- the names with a new one that has the term's sort
 abbrev pub bound : Names → List ℕ → Sorted → Option Names

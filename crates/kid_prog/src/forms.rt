@@ -1,9 +1,10 @@
 //! The forms of a program file, one function for each. Each answers `Form` where the form has another shape or breaks a rule of
 //! form, `Sort` where it has a wrong sort, and `Memory` where memory is wanting.
-ghost use Rattle.std.specs.Prelude.{◌≡◌, IfOk, option_map, codes};
+ghost use Rattle.std.specs.Prelude.{◌≡◌, IfOk, map, option_map, codes};
 ghost use Rattle.kid_sexp.specs.Tree.{plain, plains};
 ghost use Rattle.kid_value.specs.NameView.{plain_name};
 ghost use Rattle.kid_value.specs.SortView.{plain_sort};
+ghost use Rattle.kid_term.specs.DefView.{plain_def};
 ghost use Rattle.kid_term.specs.TermView.{plain_term};
 ghost use Rattle.kid_codec.specs.Reading.{Finds};
 ghost use Rattle.kid_codec.specs.Shape.{single as single_tree};
@@ -13,17 +14,20 @@ ghost use Rattle.kid_prog.specs.PlainStmt.{stmt_row};
 ghost use Rattle.kid_prog.specs.StmtShape.{spelled_stmts as stmts_of_trees};
 ghost use Rattle.kid_prog.specs.FormAnswers.{Judges};
 ghost use Rattle.kid_prog.specs.FormParts.{behind, alone};
-ghost use Rattle.kid_prog.specs.Forms.{version_of, version_form, named_form, is_input, input_form, require_form, output_form, first_names, if_proper, known_parameters, main_form, search_parts, search_sorted, search_form};
+ghost use Rattle.kid_prog.specs.Forms.{version_of, version_form, is_form, is_def, def_parts, def_form, is_input, is_undeclared, named_form, input_form, require_form, output_form, are_undefined, are_undeclared, first_names, if_proper, known_parameters, main_sorted, main_form, search_parts, search_sorted, search_form};
 
 use crate::fault::LoadCode;
-use crate::rules::{Setting, is_truth, obeys};
-use crate::scope::{are_allowed, are_new, copied, is_new, joined, with_name};
-use crate::shape::{named_pair, names_list, spelled_stmts};
+use crate::known::Known;
+use crate::rules::{Setting, obeys};
+use crate::shape::{def_parts, named_pair, names_list, spelled_stmts};
 use crate::statement::Stmts;
 use kid_codec::shape::{form, single};
 use kid_codec::{CodecFault, number_of, spelled_term};
 use kid_sexp::Tree;
-use kid_term::Term;
+use kid_sorting::Signature;
+use kid_sorting::judge::{is_sorted_definition, is_truth, is_undefined};
+use kid_sorting::names::{are_allowed, are_new, copied, is_new, joined, with_name};
+use kid_term::{Def, Term};
 use kid_value::{Memory, Names, Sort, Text, sort_ok};
 use std::alloc::Global;
 
@@ -67,6 +71,37 @@ pub fn version_form(tree: &Tree) -> Result<(), LoadCode>
     }
 }
 
+/// Whether the tree begins as a definition does.
+pub fn is_def(tree: &Tree) -> bool
+    ensures { result ≡ is_def (plain tree.now) }
+{
+    form(b"def", tree).is_some()
+}
+
+fn definition_parts(alloc: Global, tree: &Tree) -> Result<Def, CodecFault>
+    ensures { Finds plain_def result (behind (codes "def") def_parts (plain tree.now)) }
+{
+    match form(b"def", tree) {
+        Some(parts) => def_parts(alloc, parts),
+        None => Err(CodecFault::Form),
+    }
+}
+
+/// `(def NAME ((NAME SORT) ..) SORT TERM)` after other definitions: a new name, parameters that differ from one another, calls that
+/// do not go deeper than 16, allowed sorts, and a body within the sort over the parameters alone and the definitions before.
+pub fn def_form(alloc: Global, known: &Known, tree: &Tree) -> Result<Def, LoadCode>
+    ensures { Judges plain_def result (def_form known.now (plain tree.now)) }
+{
+    let definition = definition_parts(alloc, tree)?;
+    if !known.takes(alloc, &definition) {
+        return Err(LoadCode::Form);
+    }
+    if !is_sorted_definition(alloc, known.definitions(), &definition)? {
+        return Err(LoadCode::Sort);
+    }
+    Ok(definition)
+}
+
 fn named_form(alloc: Global, word: &[u8], tree: &Tree) -> Result<(Text, Sort), CodecFault>
     ensures { Finds plain_name result (named_form word.now (plain tree.now)) }
 {
@@ -76,6 +111,13 @@ fn named_form(alloc: Global, word: &[u8], tree: &Tree) -> Result<(Text, Sort), C
     }
 }
 
+/// Whether no definition and no input has the name.
+fn is_undeclared(signature: &Signature, name: &Text) -> bool
+    ensures { result ≡ is_undeclared signature.now name.now }
+{
+    is_undefined(name, signature.definitions()) && is_new(signature.names(), name)
+}
+
 /// Whether the tree begins as an input does.
 pub fn is_input(tree: &Tree) -> bool
     ensures { result ≡ is_input (plain tree.now) }
@@ -83,12 +125,16 @@ pub fn is_input(tree: &Tree) -> bool
     form(b"input", tree).is_some()
 }
 
-/// `(input NAME SORT)` after other inputs: a new name and an allowed sort. There are at most 16 inputs.
-pub fn input_form(alloc: Global, inputs: &Names, tree: &Tree) -> Result<(Text, Sort), LoadCode>
-    ensures { Judges plain_name result (input_form inputs.now (plain tree.now)) }
+/// `(input NAME SORT)` after definitions and other inputs: a new name and an allowed sort. There are at most 16 inputs.
+pub fn input_form(
+    alloc: Global,
+    signature: &Signature,
+    tree: &Tree,
+) -> Result<(Text, Sort), LoadCode>
+    ensures { Judges plain_name result (input_form signature.now (plain tree.now)) }
 {
     let (name, sort) = named_form(alloc, b"input", tree)?;
-    if !is_new(inputs, &name) || inputs.items().len() >= MAX_INPUTS {
+    if !is_undeclared(signature, &name) || signature.inputs().len() >= MAX_INPUTS {
         return Err(LoadCode::Form);
     }
     if !sort_ok(&sort) {
@@ -107,28 +153,58 @@ fn term_form(alloc: Global, word: &[u8], tree: &Tree) -> Result<Term, CodecFault
 }
 
 /// `(require TERM)`, which is a truth value over the inputs.
-pub fn require_form(alloc: Global, inputs: &Names, tree: &Tree) -> Result<Term, LoadCode>
-    ensures { Judges plain_term result (require_form inputs.now (plain tree.now)) }
+pub fn require_form(alloc: Global, signature: &Signature, tree: &Tree) -> Result<Term, LoadCode>
+    ensures { Judges plain_term result (require_form signature.now (plain tree.now)) }
 {
     let term = term_form(alloc, b"require", tree)?;
-    if !is_truth(alloc, inputs, &term)? {
+    if !is_truth(alloc, signature.definitions(), signature.inputs(), &term)? {
         return Err(LoadCode::Sort);
     }
     Ok(term)
 }
 
-/// `(output NAME SORT)`: a name that no input has, and an allowed sort.
-pub fn output_form(alloc: Global, inputs: &Names, tree: &Tree) -> Result<(Text, Sort), LoadCode>
-    ensures { Judges plain_name result (output_form inputs.now (plain tree.now)) }
+/// `(output NAME SORT)`: a name that no definition and no input has, and an allowed sort.
+pub fn output_form(
+    alloc: Global,
+    signature: &Signature,
+    tree: &Tree,
+) -> Result<(Text, Sort), LoadCode>
+    ensures { Judges plain_name result (output_form signature.now (plain tree.now)) }
 {
     let (name, sort) = named_form(alloc, b"output", tree)?;
-    if !is_new(inputs, &name) {
+    if !is_undeclared(signature, &name) {
         return Err(LoadCode::Form);
     }
     if !sort_ok(&sort) {
         return Err(LoadCode::Sort);
     }
     Ok((name, sort))
+}
+
+/// Whether no definition has one of the names.
+fn are_undefined(names: &Names, definitions: &[Def]) -> bool
+    ensures { result ≡ are_undefined names.now (map plain_def definitions.now) }
+{
+    for name in names.items() {
+        if !is_undefined(&name.0, definitions) {
+            return false;
+        }
+    }
+    true
+}
+
+/// Whether the names differ from one another, from the definitions and the inputs, and from the output.
+fn are_undeclared(
+    alloc: Global,
+    signature: &Signature,
+    output: &Text,
+    sort: &Sort,
+    names: &Names,
+) -> Result<bool, Memory>
+    ensures { IfOk result (λ b. b ≡ are_undeclared signature.now (output.now, plain_sort sort.now) names.now) }
+{
+    let taken = with_name(alloc, signature.names(), output, sort)?;
+    Ok(are_undefined(names, signature.definitions()) && are_new(&taken, names))
 }
 
 fn first_names(alloc: Global, trees: &[Tree]) -> Result<Names, CodecFault>
@@ -149,13 +225,19 @@ fn search_names(alloc: Global, tree: &Tree) -> Result<Names, CodecFault>
     }
 }
 
-fn if_proper(taken: &Names, names: Names) -> Option<Names>
-    ensures { result ≡ if_proper taken.now names }
+fn if_proper(
+    alloc: Global,
+    signature: &Signature,
+    output: &Text,
+    sort: &Sort,
+    names: Names,
+) -> Result<Option<Names>, Memory>
+    ensures { IfOk result (λ o. o ≡ if_proper signature.now (output.now, plain_sort sort.now) names) }
 {
-    if are_new(taken, &names) && are_allowed(&names) {
-        Some(names)
+    if are_undeclared(alloc, signature, output, sort, &names)? && are_allowed(&names) {
+        Ok(Some(names))
     } else {
-        None
+        Ok(None)
     }
 }
 
@@ -166,16 +248,18 @@ fn if_proper(taken: &Names, names: Names) -> Option<Names>
 /// Fails where memory is wanting.
 pub fn known_parameters(
     alloc: Global,
-    taken: &Names,
+    signature: &Signature,
+    output: &Text,
+    sort: &Sort,
     trees: &[Tree],
 ) -> Result<Option<Names>, Memory>
-    ensures { IfOk result (λ o. o ≡ known_parameters taken.now (plains trees.now)) }
+    ensures { IfOk result (λ o. o ≡ known_parameters signature.now (output.now, plain_sort sort.now) (plains trees.now)) }
 {
     let Some(search) = trees.first() else {
         return Ok(None);
     };
     match search_names(alloc, search) {
-        Ok(names) => Ok(if_proper(taken, names)),
+        Ok(names) => if_proper(alloc, signature, output, sort, names),
         Err(CodecFault::Memory) => Err(Memory),
         Err(_) => Ok(None),
     }
@@ -190,20 +274,38 @@ fn stmts_form(alloc: Global, word: &[u8], tree: &Tree) -> Result<Stmts, CodecFau
     }
 }
 
+/// Whether statements meet the rules over the inputs.
+fn main_sorted(
+    alloc: Global,
+    signature: &Signature,
+    sort: &Sort,
+    parameters: Option<&Names>,
+    statements: &Stmts,
+) -> Result<bool, Memory>
+    ensures { IfOk result (λ b. b ≡ main_sorted signature.now (plain_sort sort.now) (option_map (λ ps. ps.now) parameters.entry) (stmt_row statements.now)) }
+{
+    let setting = Setting {
+        definitions: signature.definitions(),
+        sort,
+        parameters,
+    };
+    let names = copied(alloc, signature.names())?;
+    obeys(alloc, &setting, names, statements.items())
+}
+
 /// `(main STATEMENT ..)`, whose statements meet the rules over the inputs. The sort is that of the output. A call fits the
 /// parameters where they are known.
 pub fn main_form(
     alloc: Global,
-    inputs: &Names,
+    signature: &Signature,
     sort: &Sort,
     parameters: Option<&Names>,
     tree: &Tree,
 ) -> Result<Stmts, LoadCode>
-    ensures { Judges (λ ss. stmt_row ss) result (main_form inputs.now (plain_sort sort.now) (option_map (λ ps. ps.now) parameters.entry) (plain tree.now)) }
+    ensures { Judges (λ ss. stmt_row ss) result (main_form signature.now (plain_sort sort.now) (option_map (λ ps. ps.now) parameters.entry) (plain tree.now)) }
 {
     let statements = stmts_form(alloc, b"main", tree)?;
-    let setting = Setting { sort, parameters };
-    if !obeys(alloc, &setting, copied(alloc, inputs)?, statements.items())? {
+    if !main_sorted(alloc, signature, sort, parameters, &statements)? {
         return Err(LoadCode::Sort);
     }
     Ok(statements)
@@ -232,41 +334,41 @@ fn parts_form(alloc: Global, tree: &Tree) -> Result<(Names, Stmts), CodecFault>
 /// Whether parameters have allowed sorts, and statements meet the rules over them and the inputs.
 fn search_sorted(
     alloc: Global,
-    inputs: &Names,
+    signature: &Signature,
     sort: &Sort,
     parameters: &Names,
     statements: &Stmts,
 ) -> Result<bool, Memory>
-    ensures { IfOk result (λ b. b ≡ search_sorted inputs.now (plain_sort sort.now) (parameters.now, stmt_row statements.now)) }
+    ensures { IfOk result (λ b. b ≡ search_sorted signature.now (plain_sort sort.now) (parameters.now, stmt_row statements.now)) }
 {
     if !are_allowed(parameters) {
         return Ok(false);
     }
     let setting = Setting {
+        definitions: signature.definitions(),
         sort,
         parameters: Some(parameters),
     };
-    let names = joined(alloc, parameters, inputs)?;
+    let names = joined(alloc, parameters, signature.names())?;
     obeys(alloc, &setting, names, statements.items())
 }
 
-/// `(search ((NAME SORT) ..) STATEMENT ..)`: parameters that differ from one another, the inputs and the output and have allowed
-/// sorts, and statements that meet the rules over them and the inputs. A call fits these parameters.
+/// `(search ((NAME SORT) ..) STATEMENT ..)`: parameters that differ from one another, the definitions, the inputs and the output and
+/// have allowed sorts, and statements that meet the rules over them and the inputs. A call fits these parameters.
 pub fn search_form(
     alloc: Global,
-    inputs: &Names,
+    signature: &Signature,
     output: &Text,
     sort: &Sort,
     tree: &Tree,
 ) -> Result<(Names, Stmts), LoadCode>
-    ensures { Judges (λ p. (p.0, stmt_row p.1)) result (search_form inputs.now (output.now, plain_sort sort.now) (plain tree.now)) }
+    ensures { Judges (λ p. (p.0, stmt_row p.1)) result (search_form signature.now (output.now, plain_sort sort.now) (plain tree.now)) }
 {
     let (parameters, statements) = parts_form(alloc, tree)?;
-    let taken = with_name(alloc, inputs, output, sort)?;
-    if !are_new(&taken, &parameters) {
+    if !are_undeclared(alloc, signature, output, sort, &parameters)? {
         return Err(LoadCode::Form);
     }
-    if !search_sorted(alloc, inputs, sort, &parameters, &statements)? {
+    if !search_sorted(alloc, signature, sort, &parameters, &statements)? {
         return Err(LoadCode::Sort);
     }
     Ok((parameters, statements))

@@ -1,15 +1,17 @@
 //! Search programs: their statements, their text and the rules that they meet.
 #![tactic(auto)]
 
+#[cfg(test)]
+mod definition_tests;
 mod fault;
 mod forest;
 mod forms;
+mod known;
 pub mod law;
 mod loader;
 mod printer;
 mod program;
 mod rules;
-mod scope;
 mod shape;
 mod statement;
 #[cfg(test)]

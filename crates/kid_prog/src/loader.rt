@@ -1,5 +1,5 @@
 //! The program that a file spells.
-ghost use Rattle.std.specs.Prelude.{◌≡◌, ◌≤◌, ◌<◌, ◌+◌, ◌^◌, ◌∷◌, ◌++◌, [], IfOk, length};
+ghost use Rattle.std.specs.Prelude.{◌≡◌, ◌≤◌, ◌<◌, ◌+◌, ◌^◌, [], IfOk, length, option_map};
 ghost use Rattle.kid_sexp.specs.Plain.{forest_len};
 ghost use Rattle.kid_sexp.specs.Tree.{plain, plains};
 ghost use Rattle.kid_term.specs.TermView.{plain_term};
@@ -9,15 +9,15 @@ ghost use Rattle.kid_prog.specs.Forms.{known_parameters as parameters_known, mai
 ghost use Rattle.kid_prog.specs.FormAnswers.{Judges};
 ghost use Rattle.kid_prog.specs.StageAnswers.{fault_at, numbered, plain_heading};
 ghost use Rattle.kid_prog.specs.Laws.{IsLoaded};
-ghost use Rattle.kid_prog.specs.Loading.{Loads, program_with, at_end, after_main, after_output, after_condition, after_inputs, program_from, loading};
+ghost use Rattle.kid_prog.specs.Loading.{Loads, program_with, at_end, after_main, after_output, after_condition, after_inputs, next_definition, after_definitions, program_from, loading};
 
 use crate::fault::{LoadCode, LoadFault};
 use crate::forms::{
-    input_form, is_input, known_parameters, main_form, output_form, require_form, search_form,
-    version_form,
+    def_form, input_form, is_def, is_input, known_parameters, main_form, output_form, require_form,
+    search_form, version_form,
 };
+use crate::known::Known;
 use crate::program::Program;
-use crate::scope::with_name;
 use crate::statement::Stmts;
 use kid_sexp::{Forest, ReadFault, Tree, read};
 use kid_sorting::Signature;
@@ -31,7 +31,7 @@ const MAX_BYTES: usize = 4_194_304;
 /// What the forms before main hold.
 #[derive(Drop)]
 struct Heading {
-    inputs: Names,
+    signature: Signature,
     condition: Term,
     output: Text,
     sort: Sort,
@@ -56,40 +56,24 @@ fn at<T: Drop>(number: u32, found: Result<T, LoadCode>) -> Result<T, LoadFault>
     }
 }
 
-fn signature_of(alloc: Global, inputs: &Names) -> Result<Signature, Memory>
-    ensures { IfOk result (λ s. s ≡ record { definitions = []; inputs = inputs.now }) }
-{
-    let mut signature = Signature::new(alloc);
-    for input in inputs.items() {
-        signature.add_input(input.0.copy(alloc)?, input.1.copy(alloc)?)?;
-    }
-    Ok(signature)
-}
-
-fn program_with(
-    alloc: Global,
-    heading: Heading,
-    main: Stmts,
-    parameters: Names,
-    search: Stmts,
-) -> Result<Program, Memory>
-    ensures { IfOk result (λ p. plain_program p ≡ program_with (plain_heading heading) (stmt_row main) (parameters, stmt_row search)) }
+fn program_with(heading: Heading, main: Stmts, parameters: Names, search: Stmts) -> Program
+    ensures { plain_program result ≡ program_with (plain_heading heading) (stmt_row main) (parameters, stmt_row search) }
 {
     let Heading {
-        inputs,
+        signature,
         condition,
         output,
         sort,
     } = heading;
-    Ok(Program {
-        signature: signature_of(alloc, &inputs)?,
+    Program {
+        signature,
         condition,
         output,
         sort,
         main,
         parameters,
         search,
-    })
+    }
 }
 
 /// The program, where no form stands after the last. Of this and each function below, `before` counts the forms before the trees.
@@ -118,9 +102,15 @@ fn after_main(
     let Some((tree, rest)) = trees.split_first() else {
         return Err(fault_at(number, LoadCode::Form));
     };
-    let found = search_form(alloc, &heading.inputs, &heading.output, &heading.sort, tree);
+    let found = search_form(
+        alloc,
+        &heading.signature,
+        &heading.output,
+        &heading.sort,
+        tree,
+    );
     let (parameters, search) = at(number, found)?;
-    let program = program_with(alloc, heading, main, parameters, search)?;
+    let program = program_with(heading, main, parameters, search);
     at_end(number, program, rest)
 }
 
@@ -131,17 +121,11 @@ fn main_before(
     tree: &Tree,
     rest: &[Tree],
 ) -> Result<Stmts, LoadCode>
-    ensures { Judges (λ ss. stmt_row ss) result (let h = plain_heading heading.now in main_of_tree h.inputs h.output.1 (parameters_known (h.inputs ++ h.output ∷ []) (plains rest.now)) (plain tree.now)) }
+    ensures { Judges (λ ss. stmt_row ss) result (let h = plain_heading heading.now in main_of_tree h.signature h.output.1 (parameters_known h.signature h.output (plains rest.now)) (plain tree.now)) }
 {
-    let taken = with_name(alloc, &heading.inputs, &heading.output, &heading.sort)?;
-    let parameters = known_parameters(alloc, &taken, rest)?;
-    main_form(
-        alloc,
-        &heading.inputs,
-        &heading.sort,
-        parameters.as_ref(),
-        tree,
-    )
+    let signature = &heading.signature;
+    let parameters = known_parameters(alloc, signature, &heading.output, &heading.sort, rest)?;
+    main_form(alloc, signature, &heading.sort, parameters.as_ref(), tree)
 }
 
 fn after_output(
@@ -164,20 +148,20 @@ fn after_output(
 fn after_condition(
     alloc: Global,
     before: u32,
-    inputs: Names,
+    signature: Signature,
     condition: Term,
     trees: &[Tree],
 ) -> Result<Program, LoadFault>
     requires { before + length trees.now + 1 < 2 ^ 32 }
-    ensures { Loads plain_program result (after_condition before inputs (plain_term condition) (plains trees.now)) }
+    ensures { Loads plain_program result (after_condition before signature (plain_term condition) (plains trees.now)) }
 {
     let number = before + 1;
     let Some((tree, rest)) = trees.split_first() else {
         return Err(fault_at(number, LoadCode::Form));
     };
-    let (output, sort) = at(number, output_form(alloc, &inputs, tree))?;
+    let (output, sort) = at(number, output_form(alloc, &signature, tree))?;
     let heading = Heading {
-        inputs,
+        signature,
         condition,
         output,
         sort,
@@ -188,25 +172,53 @@ fn after_condition(
 fn after_inputs(
     alloc: Global,
     before: u32,
-    inputs: Names,
+    signature: Signature,
     trees: &[Tree],
 ) -> Result<Program, LoadFault>
     requires { before + length trees.now + 1 < 2 ^ 32 }
-    ensures { Loads plain_program result (after_inputs before inputs (plains trees.now)) }
+    ensures { Loads plain_program result (after_inputs before signature (plains trees.now)) }
 {
     let number = before + 1;
     let Some((tree, rest)) = trees.split_first() else {
         return Err(fault_at(number, LoadCode::Form));
     };
     if is_input(tree) {
-        let (name, sort) = at(number, input_form(alloc, &inputs, tree))?;
-        let mut inputs = inputs;
-        inputs.push(name, sort)?;
-        after_inputs(alloc, number, inputs, rest)
+        let (name, sort) = at(number, input_form(alloc, &signature, tree))?;
+        let mut signature = signature;
+        signature.add_input(name, sort)?;
+        after_inputs(alloc, number, signature, rest)
     } else {
-        let condition = at(number, require_form(alloc, &inputs, tree))?;
-        after_condition(alloc, number, inputs, condition, rest)
+        let condition = at(number, require_form(alloc, &signature, tree))?;
+        after_condition(alloc, number, signature, condition, rest)
     }
+}
+
+/// The first tree and those after it, where it begins as a definition does.
+fn next_definition(trees: &[Tree]) -> Option<(&Tree, &[Tree])>
+    ensures { option_map (λ p. (plain p.0.now, plains p.1.now)) result ≡ next_definition (plains trees.now) }
+{
+    let (tree, rest) = trees.split_first()?;
+    if is_def(tree) {
+        Some((tree, rest))
+    } else {
+        None
+    }
+}
+
+fn after_definitions(alloc: Global, before: u32, trees: &[Tree]) -> Result<Program, LoadFault>
+    requires { before + length trees.now + 1 < 2 ^ 32 }
+    ensures { Loads plain_program result (after_definitions before [] (plains trees.now)) }
+{
+    let mut known = Known::new(alloc);
+    let mut number = before;
+    let mut rest = trees;
+    while let Some((tree, others)) = next_definition(rest) {
+        number += 1;
+        let definition = at(number, def_form(alloc, &known, tree))?;
+        known = known.with(alloc, definition)?;
+        rest = others;
+    }
+    after_inputs(alloc, number, known.signature(), rest)
 }
 
 fn program_from(alloc: Global, trees: &[Tree]) -> Result<Program, LoadFault>
@@ -217,7 +229,7 @@ fn program_from(alloc: Global, trees: &[Tree]) -> Result<Program, LoadFault>
         return Err(fault_at(1, LoadCode::Form));
     };
     at(1, version_form(tree))?;
-    after_inputs(alloc, 1, Names::new(alloc), rest)
+    after_definitions(alloc, 1, rest)
 }
 
 /// The program that a file spells, or why it is refused.
@@ -243,6 +255,8 @@ fn read_program(alloc: Global, bytes: &[u8]) -> Result<Program, LoadFault>
 /// The program that a file spells. Its forms stand in this order:
 ///
 /// - `(program 1)`
+/// - `(def NAME ((NAME SORT) ..) SORT TERM)`, any number: the term names the parameters alone, calls definitions before it alone,
+///   and its sort lies within the declared one
 /// - `(input NAME SORT)`, up to 16 times
 /// - `(require TERM)`, a truth value over the inputs
 /// - `(output NAME SORT)`
@@ -261,8 +275,10 @@ fn read_program(alloc: Global, bytes: &[u8]) -> Result<Program, LoadFault>
 /// - `Read`, with form 0: a byte is outside the alphabet, or brackets do not fit or nest more than 250 deep.
 /// - `Version`: the first form names another number than 1.
 /// - `Form`: the form is not the one that may stand there, or has not its shape, or there is none where one is due; a further
-///   form stands after the last; an input has the name of one before it, or is the 17th; the output has the name of an input; a
-///   parameter has the name of an input, of the output or of a parameter before it.
+///   form stands after the last; a definition has the name of one before it, two parameters of one name, or calls that go deeper
+///   than 16; an input has the name of a definition or of an input before it, or is the 17th; the output has the name of a
+///   definition or an input; a parameter of `search` has the name of a definition, of an input, of the output or of a parameter
+///   before it.
 /// - `Sort`: a sort that the form declares is not allowed, a term in it has no sort or not the one that it is to have, or a
 ///   statement in it breaks a rule above. Where the form `search` is not there or its parameters are refused, the arguments of a
 ///   call in `main` only need sorts, and the fault is that of `search`.

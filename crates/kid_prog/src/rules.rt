@@ -1,64 +1,47 @@
 //! Whether statements meet the rules of sorts.
-ghost use Rattle.std.specs.Prelude.{◌≡◌, [], Ok as Found, IfOk, map};
+ghost use Rattle.std.specs.Prelude.{◌≡◌, Ok as Found, IfOk, map};
 ghost use Rattle.kid_value.specs.NameView.{plain_name};
 ghost use Rattle.kid_value.specs.SortView.{plain_sort};
+ghost use Rattle.kid_term.specs.DefView.{plain_def};
 ghost use Rattle.kid_term.specs.TermView.{plain_term};
 ghost use Rattle.kid_term.specs.Sorting.{sort_of as sort_of_term, fit_parameters};
 ghost use Rattle.kid_sorting.specs.Answers.{SortsGive};
 ghost use Rattle.kid_prog.specs.PlainStmt.{stmt_row};
 ghost use Rattle.kid_prog.specs.StmtView.{plain_stmt};
 ghost use Rattle.kid_prog.specs.SettingView.{plain_setting};
-ghost use Rattle.kid_prog.specs.Rules.{is_truth, is_within, sorts_of, call_fits, obey};
+ghost use Rattle.kid_prog.specs.Rules.{sorts_of, call_fits, obey};
 ghost use Rattle.kid_prog.specs.Steps.{bound, ranged, if_obeys, for_obeys, step};
 
-use crate::scope::{copied, is_new};
 use crate::statement::Stmt;
+use kid_sorting::judge::{is_truth, is_within};
+use kid_sorting::names::{copied, is_new};
 use kid_sorting::{SortFault, sort_over};
-use kid_term::Term;
+use kid_term::{Def, Term};
 use kid_value::{Memory, Names, Sort, Text, subsort};
 use std::alloc::Global;
 
 /// What statements are judged against.
 #[derive(Clone, Copy)]
 pub struct Setting<'a> {
+    /// The definitions that terms may call.
+    pub definitions: &'a [Def],
     /// The sort of what is emitted.
     pub sort: &'a Sort,
     /// The parameters of the search procedure, where they are known.
     pub parameters: Option<&'a Names>,
 }
 
-/// Whether a term is a condition.
-///
-/// # Errors
-///
-/// Fails where memory is wanting.
-pub fn is_truth(alloc: Global, names: &Names, term: &Term) -> Result<bool, Memory>
-    ensures { IfOk result (λ b. b ≡ is_truth (sort_of_term [] names.now (plain_term term.now))) }
-{
-    match sort_over(alloc, &[], names.items(), term) {
-        Ok(Sort::Bool) => Ok(true),
-        Ok(_) => Ok(false),
-        Err(SortFault::Memory) => Err(Memory),
-        Err(_) => Ok(false),
-    }
-}
-
-fn is_within(alloc: Global, sort: &Sort, names: &Names, term: &Term) -> Result<bool, Memory>
-    ensures { IfOk result (λ b. b ≡ is_within (plain_sort sort.now) (sort_of_term [] names.now (plain_term term.now))) }
-{
-    match sort_over(alloc, &[], names.items(), term) {
-        Ok(found) => Ok(subsort(&found, sort)),
-        Err(SortFault::Memory) => Err(Memory),
-        Err(_) => Ok(false),
-    }
-}
-
-fn sorts_of(alloc: Global, names: &Names, terms: &[Term]) -> Result<Vec<Sort>, SortFault>
-    ensures { SortsGive result (sorts_of [] names.now (map plain_term terms.now)) }
+fn sorts_of(
+    alloc: Global,
+    definitions: &[Def],
+    names: &Names,
+    terms: &[Term],
+) -> Result<Vec<Sort>, SortFault>
+    ensures { SortsGive result (sorts_of (map plain_def definitions.now) names.now (map plain_term terms.now)) }
 {
     let mut sorts = Vec::new(alloc);
     for term in terms {
-        sorts.push(sort_over(alloc, &[], names.items(), term)?)?;
+        sorts.push(sort_over(alloc, definitions, names.items(), term)?)?;
     }
     Ok(sorts)
 }
@@ -90,9 +73,9 @@ fn call_fits(
     names: &Names,
     arguments: &[Term],
 ) -> Result<bool, Memory>
-    ensures { IfOk result (λ b. b ≡ call_fits (plain_setting setting.now).parameters (sorts_of [] names.now (map plain_term arguments.now))) }
+    ensures { IfOk result (λ b. b ≡ call_fits (plain_setting setting.now).parameters (sorts_of (plain_setting setting.now).definitions names.now (map plain_term arguments.now))) }
 {
-    match sorts_of(alloc, names, arguments) {
+    match sorts_of(alloc, setting.definitions, names, arguments) {
         Ok(sorts) => Ok(fits_parameters(setting, &sorts)),
         Err(SortFault::Memory) => Err(Memory),
         Err(_) => Ok(false),
@@ -112,10 +95,16 @@ fn bound(alloc: Global, names: Names, name: &Text, sort: Sort) -> Result<Option<
 }
 
 /// The names and one more that has the term's sort.
-fn bound_to(alloc: Global, names: Names, name: &Text, term: &Term) -> Result<Option<Names>, Memory>
-    ensures { IfOk result (λ o. o ≡ bound names name.now (sort_of_term [] names (plain_term term.now))) }
+fn bound_to(
+    alloc: Global,
+    definitions: &[Def],
+    names: Names,
+    name: &Text,
+    term: &Term,
+) -> Result<Option<Names>, Memory>
+    ensures { IfOk result (λ o. o ≡ bound names name.now (sort_of_term (map plain_def definitions.now) names (plain_term term.now))) }
 {
-    match sort_over(alloc, &[], names.items(), term) {
+    match sort_over(alloc, definitions, names.items(), term) {
         Ok(sort) => bound(alloc, names, name, sort),
         Err(SortFault::Memory) => Err(Memory),
         Err(_) => Ok(None),
@@ -134,10 +123,16 @@ fn bound_in(alloc: Global, names: Names, name: &Text, set: &Sort) -> Result<Opti
 }
 
 /// The names and one more that goes over the set that a term is.
-fn ranged(alloc: Global, names: Names, name: &Text, term: &Term) -> Result<Option<Names>, Memory>
-    ensures { IfOk result (λ o. o ≡ ranged names name.now (sort_of_term [] names (plain_term term.now))) }
+fn ranged(
+    alloc: Global,
+    definitions: &[Def],
+    names: Names,
+    name: &Text,
+    term: &Term,
+) -> Result<Option<Names>, Memory>
+    ensures { IfOk result (λ o. o ≡ ranged names name.now (sort_of_term (map plain_def definitions.now) names (plain_term term.now))) }
 {
-    match sort_over(alloc, &[], names.items(), term) {
+    match sort_over(alloc, definitions, names.items(), term) {
         Ok(sort) => bound_in(alloc, names, name, &sort),
         Err(SortFault::Memory) => Err(Memory),
         Err(_) => Ok(None),
@@ -154,7 +149,7 @@ fn if_obeys(
 ) -> Result<bool, Memory>
     ensures { IfOk result (λ b. b ≡ if_obeys (plain_setting setting.now) names.now (plain_term condition.now) (stmt_row (map plain_stmt body.now))) }
 {
-    if !is_truth(alloc, names, condition)? {
+    if !is_truth(alloc, setting.definitions, names.items(), condition)? {
         return Ok(false);
     }
     obeys(alloc, setting, copied(alloc, names)?, body)
@@ -171,7 +166,7 @@ fn for_obeys(
 ) -> Result<bool, Memory>
     ensures { IfOk result (λ b. b ≡ for_obeys (plain_setting setting.now) names.now name.now (plain_term set.now) (stmt_row (map plain_stmt body.now))) }
 {
-    match ranged(alloc, copied(alloc, names)?, name, set)? {
+    match ranged(alloc, setting.definitions, copied(alloc, names)?, name, set)? {
         Some(inner) => obeys(alloc, setting, inner, body),
         None => Ok(false),
     }
@@ -188,10 +183,16 @@ fn step(
     ensures { IfOk result (λ o. o ≡ step (plain_setting setting.now) names (plain_stmt statement.now)) }
 {
     let obeys = match statement {
-        Stmt::Let(name, term) => return bound_to(alloc, names, name, term),
+        Stmt::Let(name, term) => return bound_to(alloc, setting.definitions, names, name, term),
         Stmt::If(condition, body) => if_obeys(alloc, setting, &names, condition, body.items())?,
         Stmt::For(name, set, body) => for_obeys(alloc, setting, &names, name, set, body.items())?,
-        Stmt::Emit(term) => is_within(alloc, setting.sort, &names, term)?,
+        Stmt::Emit(term) => is_within(
+            alloc,
+            setting.sort,
+            setting.definitions,
+            names.items(),
+            term,
+        )?,
         Stmt::Call(arguments) => call_fits(alloc, setting, &names, arguments.items())?,
     };
     if obeys { Ok(Some(names)) } else { Ok(None) }

@@ -1,21 +1,22 @@
-//! Statements and names by their shape, where the sorts in them may be allowed or not.
+//! Statements, names and definitions by their shape, where the sorts in them may be allowed or not.
 ghost use Rattle.std.specs.Prelude.{◌≡◌};
 ghost use Rattle.kid_sexp.specs.Plain.{list};
 ghost use Rattle.kid_sexp.specs.Tree.{plain, plains};
 ghost use Rattle.kid_value.specs.NameView.{plain_name};
 ghost use Rattle.kid_value.specs.PlainSort.{both};
+ghost use Rattle.kid_term.specs.DefView.{plain_def};
 ghost use Rattle.kid_codec.specs.Reading.{Finds};
 ghost use Rattle.kid_codec.specs.TermSpelling.{spelled_name as name_of_tree, spelled_term as term_of_tree, spelled_terms as terms_of_trees};
 ghost use Rattle.kid_prog.specs.PlainStmt.{when, each, stmt_row};
 ghost use Rattle.kid_prog.specs.StmtView.{plain_stmt};
 ghost use Rattle.kid_prog.specs.StmtShape.{spelled_let, spelled_emit, spelled_call, stmt_of_word, spelled_stmt, spelled_stmts, spelled_if, spelled_for};
-ghost use Rattle.kid_prog.specs.Forms.{named, named_pair, named_list, spelled_names, names_list};
+ghost use Rattle.kid_prog.specs.Forms.{named, named_pair, named_list, spelled_names, names_list, def_parts};
 
 use crate::statement::{Stmt, Stmts};
-use kid_codec::shape::{couple, single};
+use kid_codec::shape::{couple, quadruple, single};
 use kid_codec::{CodecFault, spelled_name, spelled_sort, spelled_term};
 use kid_sexp::Tree;
-use kid_term::Terms;
+use kid_term::{Def, Terms};
 use kid_value::{Names, Sort, Text};
 use std::alloc::Global;
 
@@ -193,4 +194,27 @@ pub fn names_list(alloc: Global, tree: &Tree) -> Result<Names, CodecFault>
         Tree::Atom(_) => Err(CodecFault::Form),
         Tree::List(trees) => spelled_names(alloc, trees.as_slice()),
     }
+}
+
+/// The definition that a name, a list of parameters, a sort and a term are.
+///
+/// # Errors
+///
+/// `Form`: there are more or fewer trees, or one of them has another shape. `Memory`: memory is wanting.
+pub fn def_parts(alloc: Global, trees: &[Tree]) -> Result<Def, CodecFault>
+    ensures { Finds plain_def result (def_parts (plains trees.now)) }
+{
+    let Some((name, parameters, sort, body)) = quadruple(trees) else {
+        return Err(CodecFault::Form);
+    };
+    let name = spelled_name(alloc, name)?;
+    let parameters = names_list(alloc, parameters)?;
+    let sort = spelled_sort(alloc, sort)?;
+    let body = spelled_term(alloc, body)?;
+    Ok(Def {
+        name,
+        parameters,
+        sort,
+        body,
+    })
 }

@@ -42,7 +42,7 @@ fn refusal(
     Ok(load(alloc, file.as_slice()).err())
 }
 
-fn loads(
+pub fn loads(
     rt: &impl Abort,
     alloc: Global,
     from: usize,
@@ -55,7 +55,7 @@ fn loads(
     Ok(())
 }
 
-fn refuses(
+pub fn refuses(
     rt: &impl Abort,
     alloc: Global,
     from: usize,
@@ -70,7 +70,7 @@ fn refuses(
     Ok(())
 }
 
-fn printed(alloc: Global, file: &str) -> Result<Vec<u8>, Fail> {
+pub fn printed(alloc: Global, file: &str) -> Result<Vec<u8>, Fail> {
     let program = load(alloc, file.as_bytes())?;
     Ok(text(alloc, &program)?)
 }
@@ -163,7 +163,6 @@ fn refuses_inputs(rt: HostRuntime) -> Result<(), Fail> {
         ("(input n n)", 2, LoadCode::Form),
         ("(inputs n bool)", 2, LoadCode::Form),
         ("input", 2, LoadCode::Form),
-        ("(def f () bool true)", 2, LoadCode::Form),
         ("(input n (int 8 0))", 2, LoadCode::Sort),
         ("(input n (seq bool 65537))", 2, LoadCode::Sort),
         ("(input s bool)", 3, LoadCode::Form),
@@ -278,6 +277,12 @@ fn refuses_sorts_in_main(rt: HostRuntime) -> Result<(), Fail> {
         ("(main (if n))", 6, LoadCode::Sort),
         ("(main (for x n))", 6, LoadCode::Sort),
         ("(main (for n s))", 6, LoadCode::Sort),
+        (
+            "(main (for x s (if (some x s (lt x 1)))))",
+            6,
+            LoadCode::Sort,
+        ),
+        ("(main (let k (setof n s true)))", 6, LoadCode::Sort),
         ("(main (for x s) (emit x))", 6, LoadCode::Sort),
         ("(main (emit (cast (int 1 0) n)))", 6, LoadCode::Sort),
         ("(main (call))", 6, LoadCode::Sort),

@@ -1,6 +1,7 @@
 -- What the rules say of the terms of statements, and how scopes grow.
 use Rattle.std.proofs.Common.{◌≡◌, ℕ, Bool, true, false, List, [], ◌∷◌, ◌++◌, length, map, Some, Result, Ok, Err, refl, sym, ap, ◌∙◌, cond, subst, arith}
 use Rattle.std.specs.Prelude.{not}
+use Rattle.std.specs.List.{list_all}
 use Rattle.kid_value.specs.PlainValue.{PlainValue}
 use Rattle.kid_value.specs.PlainSort.{PlainSort, never, bools, ints, pairs, sets, seqs, maps, is_subsort, is_allowed}
 use Rattle.kid_value.proofs.SortLemmas.{and_parts, and_both}
@@ -15,7 +16,8 @@ use Rattle.kid_term.proofs.Inversions.{bind_ok, ok, ok_same}
 use Rattle.kid_term.proofs.EvalLemmas.{same_name-itself, same_name-true, or_none}
 use Rattle.kid_term.proofs.LogicSound.{IsOfSort-subsort}
 use Rattle.kid_term.proofs.SortedValue.{Fits-more, AllEvaluate, sorted_evaluates}
-use Rattle.kid_prog.specs.Rules.{is_truth, is_within, sorts_of, call_fits, with_name, binds, ranges}
+use Rattle.kid_sorting.specs.Declaring.{is_truth, is_within, with_name}
+use Rattle.kid_prog.specs.Rules.{sorts_of, call_fits, binds, ranges}
 
 -- ---- names at the end
 
@@ -158,7 +160,12 @@ ok_lists a b p = cc
 -- terms of which each has a sort
 pub terms-evaluate : (defs : List PlainDef) (names : Names) (env : Env) (ts : List PlainTerm) (ss : List PlainSort) → AreSound defs → AreAllowed names → Fits names env → sorts_of defs names ts ≡ Ok ss
     → AllEvaluate ss (evals (calls_of defs) env (term_row ts)) (all_stay_small (calls_of defs) (checks_of defs) env (term_row ts))
-terms-evaluate defs names env [] ss sound a h p = record { of_sorts = subst (λ z. AreOfSorts z []) (ok_lists [] ss p) tt; stay = refl }
+terms-evaluate defs names env [] ss sound a h p =
+    record {
+      of_sorts = subst (λ z. AreOfSorts z []) (ok_lists [] ss p) tt;
+      sorts_allowed = subst (λ z. list_all is_allowed z ≡ true) (ok_lists [] ss p) refl;
+      stay = refl;
+    }
 terms-evaluate defs names env (t ∷ ts) ss sound a h p =
     let r = bind_ok (sort_of defs names t) (λ s. sorts_of defs names ts >>= λ us. Ok (s ∷ us)) ss p in
     let q = bind_ok (sorts_of defs names ts) (λ us. Ok (r.0 ∷ us)) ss r.2 in
@@ -166,5 +173,6 @@ terms-evaluate defs names env (t ∷ ts) ss sound a h p =
     let l = terms-evaluate defs names env ts q.0 sound a h q.1 in
     record {
       of_sorts = subst (λ z. AreOfSorts z (eval (calls_of defs) env t ∷ evals (calls_of defs) env (term_row ts))) (ok_lists (r.0 ∷ q.0) ss q.2) (k.sound.of_sort, l.of_sorts);
+      sorts_allowed = subst (λ z. list_all is_allowed z ≡ true) (ok_lists (r.0 ∷ q.0) ss q.2) (and_both (is_allowed r.0) (list_all is_allowed q.0) k.sound.sort_allowed l.sorts_allowed);
       stay = and_both (stays_small (calls_of defs) (checks_of defs) env t) (all_stay_small (calls_of defs) (checks_of defs) env (term_row ts)) k.stays l.stay;
     }

@@ -17,7 +17,8 @@ use Rattle.kid_term.proofs.Members.{Each, members_sound}
 use Rattle.kid_term.proofs.SortedValue.{element_allowed, sorted_evaluates}
 use Rattle.kid_prog.specs.PlainStmt.{PlainStmt, assign, when, each, emit, call, PlainStmts, no_stmt, stmt}
 use Rattle.kid_prog.specs.PlainProgram.{PlainProgram}
-use Rattle.kid_prog.specs.Rules.{setting_of, obey, with_name, ranges, is_truth, is_within, sorts_of, call_fits, IsRunnable, search_scope}
+use Rattle.kid_sorting.specs.Declaring.{is_truth, is_within, with_name}
+use Rattle.kid_prog.specs.Rules.{setting_of, obey, ranges, sorts_of, call_fits, IsRunnable, search_scope}
 use Rattle.kid_run.specs.Running.{found, Procedure, events, search_env}
 use Rattle.kid_run.specs.Frames.{PlainFrame, rest, over, caller, PlainMachine, Move, goes, finds, calls, ends, machine, kept, keeping, overs, below, first, step_at, step, waiting, entered, frames_do, doing}
 use Rattle.kid_run.specs.Scope.{CanRun, CanRunOver, AllOfSort, FramesCanRun, MachineCanRun, AreArguments}

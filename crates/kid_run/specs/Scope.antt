@@ -7,7 +7,8 @@ use Rattle.kid_term.specs.Eval.{Env, bound}
 use Rattle.kid_term.specs.Fitting.{IsOfSort, Fits, AreAllowed}
 use Rattle.kid_prog.specs.PlainStmt.{PlainStmts}
 use Rattle.kid_prog.specs.PlainProgram.{PlainProgram}
-use Rattle.kid_prog.specs.Rules.{Setting, setting_of, obey, with_name}
+use Rattle.kid_sorting.specs.Declaring.{with_name}
+use Rattle.kid_prog.specs.Rules.{Setting, setting_of, obey}
 use Rattle.kid_run.specs.Frames.{PlainFrame, rest, over, caller, PlainMachine, kept}
 
 -- the statements obey the rules where some names are in scope, of which each has a value of its sort

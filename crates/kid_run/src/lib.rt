@@ -7,6 +7,8 @@ mod lines;
 mod machine;
 mod moves;
 mod printed;
+#[cfg(test)]
+mod program_tests;
 mod put;
 mod read;
 mod report;

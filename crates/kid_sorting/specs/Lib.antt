@@ -1,5 +1,6 @@
 pub mod Answers
 pub mod Binders
+pub mod Declaring
 pub mod Definition
 pub mod PlainSignature
 pub mod ScopeView

@@ -1,12 +1,12 @@
 ghost use Rattle.std.specs.Prelude.{◌≡◌, Ok};
 ghost use Rattle.kid_value.specs.PlainSort.{sets};
 ghost use Rattle.kid_value.specs.SortView.{plain_sort};
-ghost use Rattle.kid_term.specs.Sorting.{binder_sort as sort_of_binder, sum_sort as sort_of_sum};
+ghost use Rattle.kid_term.specs.Sorting.{binder_sort as sort_of_binder};
 ghost use Rattle.kid_sorting.specs.Answers.{SortGives};
 
 use crate::allow::allow;
 use crate::fault::SortFault;
-use crate::interval::Interval;
+use crate::total::sum_sort;
 use kid_term::Binder;
 use kid_value::{Sort, count_of};
 use std::alloc::Global;
@@ -35,15 +35,4 @@ fn set_of(alloc: Global, element: &Sort) -> Result<Sort, SortFault>
 {
     let element = element.copy(alloc)?;
     Ok(Sort::Set(Box::new(alloc, element)?))
-}
-
-/// The sort of a sum of at most `count` numbers.
-fn sum_sort(count: u32, number: &Sort) -> Result<Sort, SortFault>
-    ensures { SortGives result (sort_of_sum count (plain_sort number.now)) }
-{
-    match number {
-        Sort::Int { lo, hi } => Interval { lo: *lo, hi: *hi }.total(count),
-        Sort::Never => Ok(Sort::Int { lo: 0, hi: 0 }),
-        _ => Err(SortFault::Kind),
-    }
 }

@@ -3,7 +3,9 @@ ghost use Rattle.kid_value.specs.SortView.{plain_sort};
 ghost use Rattle.kid_term.specs.DefView.{plain_def};
 ghost use Rattle.kid_value.specs.NameView.{plain_name};
 ghost use Rattle.kid_term.specs.Names.{latest_first};
-ghost use Rattle.kid_term.specs.TermView.{plain_head};
+ghost use Rattle.kid_term.specs.PlainTerm.{term_row};
+ghost use Rattle.kid_term.specs.TermView.{plain_head, plain_term};
+ghost use Rattle.kid_term.specs.Written.{written};
 ghost use Rattle.kid_term.specs.Sorting.{head_sort as sort_of_head, call_sort as sort_of_call, cast_sort as sort_of_cast, fit_parameters};
 ghost use Rattle.kid_sorting.specs.Answers.{SortGives};
 
@@ -11,23 +13,34 @@ use crate::allow::allow;
 use crate::fault::SortFault;
 use crate::find::find_definition;
 use crate::logic::logic_sort;
+use crate::map::map_sort;
 use crate::number::number_sort;
-use kid_term::{Def, Head, Op};
+use crate::pair::pair_sort;
+use crate::seq::seq_sort;
+use crate::set::set_sort;
+use crate::word::word_sort;
+use kid_term::{Def, Head, Op, Term};
 use kid_value::{Sort, Text, has_never, subsort};
 use std::alloc::Global;
 
-/// The sort of a head at its arguments' sorts.
+/// The sort of a head at its arguments and their sorts.
 pub fn head_sort(
     alloc: Global,
     definitions: &[Def],
     head: &Head,
+    terms: &[Term],
     sorts: &[Sort],
 ) -> Result<Sort, SortFault>
-    ensures { SortGives result (sort_of_head (latest_first (map plain_def definitions.now)) (plain_head head.now) (map plain_sort sorts.now)) }
+    ensures { SortGives result (sort_of_head (latest_first (map plain_def definitions.now)) (plain_head head.now) (written (term_row (map plain_term terms.now))) (map plain_sort sorts.now)) }
 {
     match head {
         Head::Op(Op::Logic(op)) => logic_sort(alloc, *op, sorts),
         Head::Op(Op::Number(op)) => number_sort(*op, sorts),
+        Head::Op(Op::Pair(op)) => pair_sort(alloc, *op, sorts),
+        Head::Op(Op::Set(op)) => set_sort(alloc, *op, sorts),
+        Head::Op(Op::Seq(op)) => seq_sort(alloc, *op, sorts),
+        Head::Op(Op::Map(op)) => map_sort(alloc, *op, sorts),
+        Head::Op(Op::Word(op)) => word_sort(alloc, *op, terms, sorts),
         Head::Call(name) => call_sort(alloc, definitions, name, sorts),
         Head::Cast(sort) => cast_sort(alloc, sort, sorts),
     }

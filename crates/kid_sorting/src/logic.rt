@@ -1,14 +1,12 @@
 ghost use Rattle.std.specs.Prelude.{◌≡◌, ◌∷◌, [], map};
 ghost use Rattle.kid_value.specs.SortView.{plain_sort};
-ghost use Rattle.kid_value.specs.PlainSort.{join as join_of};
-ghost use Rattle.kid_term.specs.Sorted.{allowed, with_join};
 ghost use Rattle.kid_term.specs.LogicSorts.{logic_sort as sort_of_logic};
 ghost use Rattle.kid_sorting.specs.Answers.{SortGives};
 
-use crate::allow::allow;
+use crate::common::{comparable, joined};
 use crate::fault::SortFault;
 use kid_term::LogicOp;
-use kid_value::{Sort, join};
+use kid_value::Sort;
 use std::alloc::Global;
 
 /// The sort of an operator on truth values at its arguments' sorts.
@@ -37,10 +35,7 @@ fn at_two(alloc: Global, op: LogicOp, s: &Sort, t: &Sort) -> Result<Sort, SortFa
 {
     match (op, s, t) {
         (LogicOp::And | LogicOp::Or | LogicOp::Implies, Sort::Bool, Sort::Bool) => Ok(Sort::Bool),
-        (LogicOp::Eq, _, _) => match join(alloc, s, t)? {
-            Some(_) => Ok(Sort::Bool),
-            None => Err(SortFault::Kind),
-        },
+        (LogicOp::Eq, _, _) => comparable(alloc, s, t),
         _ => Err(SortFault::Kind),
     }
 }
@@ -51,15 +46,5 @@ fn at_three(alloc: Global, op: LogicOp, p: &Sort, s: &Sort, t: &Sort) -> Result<
     match (op, p) {
         (LogicOp::If, Sort::Bool) => joined(alloc, s, t),
         _ => Err(SortFault::Kind),
-    }
-}
-
-/// The least sort above both, if it is there and allowed.
-fn joined(alloc: Global, s: &Sort, t: &Sort) -> Result<Sort, SortFault>
-    ensures { SortGives result (with_join (join_of (plain_sort s.now) (plain_sort t.now)) allowed) }
-{
-    match join(alloc, s, t)? {
-        Some(sort) => allow(sort),
-        None => Err(SortFault::Kind),
     }
 }

@@ -39,6 +39,16 @@ impl Signature {
         }
     }
 
+    /// The signature of these definitions and inputs. Takes no memory.
+    pub fn from_parts(definitions: Defs, inputs: Names) -> Signature
+        ensures { result ≡ record { definitions = definitions; inputs = inputs } }
+    {
+        Signature {
+            definitions,
+            inputs,
+        }
+    }
+
     /// Adds a definition after the others.
     ///
     /// # Errors
@@ -84,6 +94,13 @@ impl Signature {
         ensures { map plain_name result.now ≡ self.now.inputs }
     {
         self.inputs.items()
+    }
+
+    /// The inputs as a whole.
+    pub fn names(&self) -> &Names
+        ensures { result.now ≡ self.now.inputs }
+    {
+        &self.inputs
     }
 
     /// The latest definition of a name, or `None` where no definition has it.

@@ -84,7 +84,7 @@ fn least_sort<'a>(
         Term::Lit(Literal::Bool(_)) => Ok(Sort::Bool),
         Term::App(head, args) => {
             let sorts = least_sorts(alloc, definitions, scope, args.items())?;
-            head_sort(alloc, definitions, head, &sorts)
+            head_sort(alloc, definitions, head, args.items(), &sorts)
         }
         Term::Bind(binder, name, set, body) => {
             let set = least_sort(alloc, definitions, scope, set.get())?;

@@ -67,7 +67,7 @@ nothing_summed s [] p h =
     }
 nothing_summed s (v ∷ vs) p h = absurd (none_of v h.0.has)
 
-summed : (num : ℕ) (a s : PlainSort) (vs : List PlainValue) → sum_sort num a ≡ Ok s → Each (IsOfSort a) vs → length vs ≤ num → Evaluates s (int (total vs)) (sums_small (pos 0) vs)
+pub summed : (num : ℕ) (a s : PlainSort) (vs : List PlainValue) → sum_sort num a ≡ Ok s → Each (IsOfSort a) vs → length vs ≤ num → Evaluates s (int (total vs)) (sums_small (pos 0) vs)
 summed num never s vs p h q = nothing_summed s vs p h
 summed num bools s vs p h q = cc
 summed num (ints lo hi) s vs p h q = integers_summed num lo hi s vs p h q

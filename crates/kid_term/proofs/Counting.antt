@@ -42,17 +42,17 @@ bool_parts : (v : PlainValue) → IsOfSort bools v → (b : Bool) × (v ≡ bool
 bool_parts (bool b) h = (b, refl)
 bool_parts v h = let no' : false ≡ true = h.has in cc
 
-pair_parts : (a b : PlainSort) (v : PlainValue) → IsOfSort (pairs a b) v → (x y : PlainValue) × (v ≡ pair x y) × IsOfSort a x × IsOfSort b y
+pub pair_parts : (a b : PlainSort) (v : PlainValue) → IsOfSort (pairs a b) v → (x y : PlainValue) × (v ≡ pair x y) × IsOfSort a x × IsOfSort b y
 pair_parts a b (pair x y) h =
     let r = and_parts (has_sort a x) (has_sort b y) h.has in
     (x, y, refl, record { has = r.0; canonical = h.canonical.0 }, record { has = r.1; canonical = h.canonical.1 })
 pair_parts a b v h = let no' : false ≡ true = h.has in cc
 
-set_parts : (a : PlainSort) (v : PlainValue) → IsOfSort (sets a) v → (vs : PlainValues) × (v ≡ set vs) × Each (IsOfSort a) (items vs) × Ascends (items vs)
+pub set_parts : (a : PlainSort) (v : PlainValue) → IsOfSort (sets a) v → (vs : PlainValues) × (v ≡ set vs) × Each (IsOfSort a) (items vs) × Ascends (items vs)
 set_parts a (set vs) h = (vs, refl, Each-items a vs h.has h.canonical.1, h.canonical.0)
 set_parts a v h = let no' : false ≡ true = h.has in cc
 
-seq_parts : (a : PlainSort) (n : ℕ) (v : PlainValue) → IsOfSort (seqs a n) v → (vs : PlainValues) × (v ≡ seq vs) × Each (IsOfSort a) (items vs) × (length (items vs) ≤ n)
+pub seq_parts : (a : PlainSort) (n : ℕ) (v : PlainValue) → IsOfSort (seqs a n) v → (vs : PlainValues) × (v ≡ seq vs) × Each (IsOfSort a) (items vs) × (length (items vs) ≤ n)
 seq_parts a n (seq vs) h =
     let r = and_parts (nat_le (length (items vs)) n) (list_all (has_sort a) (items vs)) h.has in
     (vs, refl, Each-items a vs r.1 h.canonical, is_le (length (items vs)) n r.0)

@@ -20,6 +20,7 @@ use Rattle.kid_term.specs.Small.{Checks, checks_of}
 use Rattle.kid_term.specs.Places.{first_of, put_at, put_among, Guard, SameAt, SameAmong}
 use Rattle.kid_term.specs.Sorted.{Sorted, with_set, ◌>>=◌}
 use Rattle.kid_term.specs.Sorting.{head_sort, binder_sort, unshadowed, least_sort, least_sorts}
+use Rattle.kid_term.specs.Written.{Numbers, written}
 use Rattle.kid_term.specs.Fitting.{IsOfSort, AreOfSorts, Fits, AreAllowed}
 use Rattle.kid_term.proofs.Inversions.{bind_ok, ok, with_set_ok}
 use Rattle.kid_term.proofs.LogicSound.{two_bools_ok}
@@ -124,19 +125,19 @@ if_second (map_of a) w x y vs e = refl
 
 module _ (known : List PlainDef) (calls : Calls) (checks : Checks) (fit : CallsFit known calls checks) where
   -- the value of an application, where one child's value changes only where the guard does not hold
-  guarded : (g : PlainHead) (ts : PlainTerms) (i : ℕ) (path : List ℕ) (new : PlainTerm) (env : Env) (ss ss' : List PlainSort) (s s' : PlainSort)
-      → head_sort known g ss ≡ Ok s → AreOfSorts ss (evals calls env ts) → head_sort known g ss' ≡ Ok s' → AreOfSorts ss' (evals calls env (put_among ts i path new))
+  guarded : (g : PlainHead) (ts : PlainTerms) (i : ℕ) (path : List ℕ) (new : PlainTerm) (env : Env) (ns ns' : Numbers) (ss ss' : List PlainSort) (s s' : PlainSort)
+      → head_sort known g ns ss ≡ Ok s → AreOfSorts ss (evals calls env ts) → head_sort known g ns' ss' ≡ Ok s' → AreOfSorts ss' (evals calls env (put_among ts i path new))
       → (Guard g i (evals calls env ts) → evals calls env (put_among ts i path new) ≡ evals calls env ts)
       → head_value calls g (evals calls env (put_among ts i path new)) ≡ head_value calls g (evals calls env ts)
-  guarded (op (Logic And)) no_term (suc zero) path new env ss ss' s s' p h p' h' k = refl
-  guarded (op (Logic And)) (term u ts) (suc zero) path new env ss ss' s s' p h p' h' k = by (truth_of (eval calls env u)) refl
+  guarded (op (Logic And)) no_term (suc zero) path new env ns ns' ss ss' s s' p h p' h' k = refl
+  guarded (op (Logic And)) (term u ts) (suc zero) path new env ns ns' ss ss' s s' p h p' h' k = by (truth_of (eval calls env u)) refl
     where
       by : (c : Bool) → truth_of (eval calls env u) ≡ c
           → logic_value And (eval calls env u ∷ evals calls env (put_among ts 0 path new)) ≡ logic_value And (eval calls env u ∷ evals calls env ts)
       by true e = ap (logic_value And) (k e)
       by false e = and_false (eval calls env u) (evals calls env (put_among ts 0 path new)) e ∙ sym (and_false (eval calls env u) (evals calls env ts) e)
-  guarded (op (Logic Implies)) no_term (suc zero) path new env ss ss' s s' p h p' h' k = refl
-  guarded (op (Logic Implies)) (term u ts) (suc zero) path new env ss ss' s s' p h p' h' k = by (truth_of (eval calls env u)) refl
+  guarded (op (Logic Implies)) no_term (suc zero) path new env ns ns' ss ss' s s' p h p' h' k = refl
+  guarded (op (Logic Implies)) (term u ts) (suc zero) path new env ns ns' ss ss' s s' p h p' h' k = by (truth_of (eval calls env u)) refl
     where
       by : (c : Bool) → truth_of (eval calls env u) ≡ c
           → logic_value Implies (eval calls env u ∷ evals calls env (put_among ts 0 path new)) ≡ logic_value Implies (eval calls env u ∷ evals calls env ts)
@@ -145,25 +146,25 @@ module _ (known : List PlainDef) (calls : Calls) (checks : Checks) (fit : CallsF
           let r = two_bools_ok ss (eval calls env u ∷ evals calls env ts) s p h in
           let r' = two_bools_ok ss' (eval calls env u ∷ evals calls env (put_among ts 0 path new)) s' p' h' in
           implies_true (eval calls env u) (evals calls env (put_among ts 0 path new)) r'.0 r'.1 e r'.2 ∙ sym (implies_true (eval calls env u) (evals calls env ts) r.0 r.1 e r.2)
-  guarded (op (Logic If)) no_term (suc zero) path new env ss ss' s s' p h p' h' k = refl
-  guarded (op (Logic If)) (term u no_term) (suc zero) path new env ss ss' s s' p h p' h' k = refl
-  guarded (op (Logic If)) (term u (term w ts)) (suc zero) path new env ss ss' s s' p h p' h' k = by (truth_of (eval calls env u)) refl
+  guarded (op (Logic If)) no_term (suc zero) path new env ns ns' ss ss' s s' p h p' h' k = refl
+  guarded (op (Logic If)) (term u no_term) (suc zero) path new env ns ns' ss ss' s s' p h p' h' k = refl
+  guarded (op (Logic If)) (term u (term w ts)) (suc zero) path new env ns ns' ss ss' s s' p h p' h' k = by (truth_of (eval calls env u)) refl
     where
       by : (c : Bool) → truth_of (eval calls env u) ≡ c
           → logic_value If (eval calls env u ∷ eval calls env (put_at w path new) ∷ evals calls env ts) ≡ logic_value If (eval calls env u ∷ eval calls env w ∷ evals calls env ts)
       by true e = ap (logic_value If) (k e)
       by false e = if_first (eval calls env u) (eval calls env (put_at w path new)) (eval calls env w) (evals calls env ts) e
-  guarded (op (Logic If)) no_term (suc (suc zero)) path new env ss ss' s s' p h p' h' k = refl
-  guarded (op (Logic If)) (term u no_term) (suc (suc zero)) path new env ss ss' s s' p h p' h' k = refl
-  guarded (op (Logic If)) (term u (term w no_term)) (suc (suc zero)) path new env ss ss' s s' p h p' h' k = refl
-  guarded (op (Logic If)) (term u (term w (term y ts))) (suc (suc zero)) path new env ss ss' s s' p h p' h' k = by (truth_of (eval calls env u)) refl
+  guarded (op (Logic If)) no_term (suc (suc zero)) path new env ns ns' ss ss' s s' p h p' h' k = refl
+  guarded (op (Logic If)) (term u no_term) (suc (suc zero)) path new env ns ns' ss ss' s s' p h p' h' k = refl
+  guarded (op (Logic If)) (term u (term w no_term)) (suc (suc zero)) path new env ns ns' ss ss' s s' p h p' h' k = refl
+  guarded (op (Logic If)) (term u (term w (term y ts))) (suc (suc zero)) path new env ns ns' ss ss' s s' p h p' h' k = by (truth_of (eval calls env u)) refl
     where
       by : (c : Bool) → truth_of (eval calls env u) ≡ c
           → logic_value If (eval calls env u ∷ eval calls env w ∷ eval calls env (put_at y path new) ∷ evals calls env ts)
           ≡ logic_value If (eval calls env u ∷ eval calls env w ∷ eval calls env y ∷ evals calls env ts)
       by true e = if_second (eval calls env u) (eval calls env w) (eval calls env (put_at y path new)) (eval calls env y) (evals calls env ts) e
       by false e = ap (logic_value If) (k e)
-  guarded g ts i path new env ss ss' s s' p h p' h' k = ap (head_value calls g) (k tt)
+  guarded g ts i path new env ns ns' ss ss' s s' p h p' h' k = ap (head_value calls g) (k tt)
 
   mutual
     pub eval-put_at : (t : PlainTerm) (path : List ℕ) (new : PlainTerm) (names : Names) (env : Env) (s s' : PlainSort) → least_sort known names t ≡ Ok s → least_sort known names (put_at t path new) ≡ Ok s'
@@ -177,9 +178,9 @@ module _ (known : List PlainDef) (calls : Calls) (checks : Checks) (fit : CallsF
     eval-put_at (number n) (i ∷ path) new names env s s' p p' a h k = refl
     eval-put_at (truth b) (i ∷ path) new names env s s' p p' a h k = refl
     eval-put_at (app g ts) (i ∷ path) new names env s s' p p' a h k =
-        let r = bind_ok (least_sorts known names ts) (head_sort known g) s p in
-        let r' = bind_ok (least_sorts known names (put_among ts i path new)) (head_sort known g) s' p' in
-        guarded g ts i path new env r.0 r'.0 s s' r.2 (all_evaluate known calls checks fit ts names env r.0 r.1 a h).of_sorts r'.2
+        let r = bind_ok (least_sorts known names ts) (head_sort known g (written ts)) s p in
+        let r' = bind_ok (least_sorts known names (put_among ts i path new)) (head_sort known g (written (put_among ts i path new))) s' p' in
+        guarded g ts i path new env (written ts) (written (put_among ts i path new)) r.0 r'.0 s s' r.2 (all_evaluate known calls checks fit ts names env r.0 r.1 a h).of_sorts r'.2
         (all_evaluate known calls checks fit (put_among ts i path new) names env r'.0 r'.1 a h).of_sorts (λ w. evals-put_among ts i path new names env r.0 r'.0 r.1 r'.1 a h (k w))
     eval-put_at (bind b x u t) (zero ∷ path) new names env s s' p p' a h k =
         let r = binder_ok known names b x u t s p in

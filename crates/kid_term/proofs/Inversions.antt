@@ -4,7 +4,7 @@ use Rattle.std.specs.Prelude.{◌≤ℤ◌, ◌&&◌, int_le, pos, negsuc}
 use Rattle.std.proofs.lemmas.Int.{ints as int_rules}
 use Rattle.kid_value.specs.PlainValue.{PlainValue, int, bool, pair, set, seq, map_of}
 use Rattle.kid_value.specs.PlainSort.{PlainSort, never, bools, ints, pairs, sets, seqs, maps, has_sort, is_allowed}
-use Rattle.kid_term.specs.Sorted.{Fault, Sorted, Kind, Bounds, ◌>>=◌, allowed, with_one, with_two, with_three, with_bool, with_ints, with_set, with_join}
+use Rattle.kid_term.specs.Sorted.{Fault, Sorted, Kind, Bounds, ◌>>=◌, allowed, with_one, with_two, with_three, with_four, with_bool, with_ints, with_set, with_join}
 use Rattle.kid_term.specs.NumberSorts.{two_ints}
 use Rattle.kid_term.specs.Fitting.{IsOfSort, AreOfSorts}
 
@@ -44,6 +44,15 @@ with_three_ok (a ∷ b ∷ []) k s p = cc
 with_three_ok (a ∷ b ∷ c ∷ []) k s p = (a, b, c, refl, p)
 with_three_ok (a ∷ b ∷ c ∷ d ∷ ss) k s p = cc
 
+pub with_four_ok : (ss : List PlainSort) (k : PlainSort → PlainSort → PlainSort → PlainSort → Sorted) (s : PlainSort) → with_four ss k ≡ Ok s
+    → (a b c d : PlainSort) × (ss ≡ a ∷ b ∷ c ∷ d ∷ []) × (k a b c d ≡ Ok s)
+with_four_ok [] k s p = cc
+with_four_ok (a ∷ []) k s p = cc
+with_four_ok (a ∷ b ∷ []) k s p = cc
+with_four_ok (a ∷ b ∷ c ∷ []) k s p = cc
+with_four_ok (a ∷ b ∷ c ∷ d ∷ []) k s p = (a, b, c, d, refl, p)
+with_four_ok (a ∷ b ∷ c ∷ d ∷ e ∷ ss) k s p = cc
+
 pub with_ints_ok : (a : PlainSort) (k : ℤ → ℤ → Sorted) (s : PlainSort) → with_ints a k ≡ Ok s → (lo hi : ℤ) × (a ≡ ints lo hi) × (k lo hi ≡ Ok s)
 with_ints_ok (ints lo hi) k s p = (lo, hi, refl, p)
 with_ints_ok a k s p = cc
@@ -79,6 +88,15 @@ three_values a b c (u ∷ []) h = absurd h.1
 three_values a b c (u ∷ v ∷ []) h = absurd h.1.1
 three_values a b c (u ∷ v ∷ w ∷ []) h = (u, v, w, refl, h.0, h.1.0, h.1.1.0)
 three_values a b c (u ∷ v ∷ w ∷ x ∷ vs) h = absurd h.1.1.1
+
+pub four_values : (a b c d : PlainSort) (vs : List PlainValue) → AreOfSorts (a ∷ b ∷ c ∷ d ∷ []) vs
+    → (u v w x : PlainValue) × (vs ≡ u ∷ v ∷ w ∷ x ∷ []) × IsOfSort a u × IsOfSort b v × IsOfSort c w × IsOfSort d x
+four_values a b c d [] h = absurd h
+four_values a b c d (u ∷ []) h = absurd h.1
+four_values a b c d (u ∷ v ∷ []) h = absurd h.1.1
+four_values a b c d (u ∷ v ∷ w ∷ []) h = absurd h.1.1.1
+four_values a b c d (u ∷ v ∷ w ∷ x ∷ []) h = (u, v, w, x, refl, h.0, h.1.0, h.1.1.0, h.1.1.1.0)
+four_values a b c d (u ∷ v ∷ w ∷ x ∷ y ∷ vs) h = absurd h.1.1.1.1
 
 int_within : (lo hi n : ℤ) → (int_le lo n && int_le n hi) ≡ true → (lo ≤ℤ n) × (n ≤ℤ hi)
 int_within lo hi n h = (low lo hi n h, high lo hi n h)

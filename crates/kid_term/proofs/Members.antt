@@ -26,7 +26,7 @@ module _ (P : PlainValue → Type 0) where
       by true k = (h.0, k)
       by false k = k
 
-  Each-put : (v : PlainValue) (ws : List PlainValue) → P v → Each ws → Each (put v ws)
+  pub Each-put : (v : PlainValue) (ws : List PlainValue) → P v → Each ws → Each (put v ws)
   Each-put v [] p h = (p, tt)
   Each-put v (w ∷ ws) p h = by (value_cmp v w) (Each-put v ws p h.1)
     where
@@ -65,7 +65,7 @@ members_sound a (pair v w) h = let no' : false ≡ true = h.has in cc
 members_sound a (seq vs) h = let no' : false ≡ true = h.has in cc
 members_sound a (map_of es) h = let no' : false ≡ true = h.has in cc
 
-AreCanonical-row : (a : PlainSort) (vs : List PlainValue) → Each (IsOfSort a) vs → AreCanonical (row vs)
+pub AreCanonical-row : (a : PlainSort) (vs : List PlainValue) → Each (IsOfSort a) vs → AreCanonical (row vs)
 AreCanonical-row a [] h = tt
 AreCanonical-row a (v ∷ vs) h = (h.0.canonical, AreCanonical-row a vs h.1)
 

@@ -4,25 +4,38 @@ use Rattle.std.specs.Prelude.{◌&&◌, ◌||◌, ◌≤ℤ◌, int_le, nat_le, 
 use Rattle.std.specs.List.{list_all}
 use Rattle.std.proofs.lemmas.Int.{ints as int_rules}
 use Rattle.std.proofs.lemmas.Bool.Decides.{nat_tests}
-use Rattle.kid_value.specs.PlainValue.{PlainValue, int, bool, pair, set, seq, map_of}
-use Rattle.kid_value.specs.PlainSort.{PlainSort, never, bools, ints, pairs, sets, seqs, maps, has_sort, is_subsort, is_allowed, is_bounded, has_never, sort_depth, count_of}
+use Rattle.kid_value.specs.PlainValue.{PlainValue, int, bool, pair, set, seq, map_of, items}
+use Rattle.kid_value.specs.PlainSort.{PlainSort, never, bools, ints, pairs, sets, seqs, maps, has_sort, is_subsort, in_limits, is_allowed, is_bounded, has_never, sort_depth, count_of}
 use Rattle.kid_value.specs.Canonical.{IsCanonical}
 use Rattle.kid_value.specs.Least.{least_value}
 use Rattle.kid_value.specs.Rows.{members_of}
 use Rattle.kid_value.proofs.SortLemmas.{and_parts, and_both, int_le-itself}
 use Rattle.kid_term.specs.PlainTerm.{PlainHead, op, call, cast, PlainTerm, var, number, truth, app, bind, PlainTerms, no_term, term, node_count, depth}
-use Rattle.kid_term.specs.declared.operator.Op.TheVariants.{Logic, Number}
+use Rattle.kid_term.specs.declared.operator.Op.TheVariants.{Logic, Number, Pair, Set, Seq, Map, Word}
+use Rattle.kid_term.specs.declared.operator.SeqOp.{SeqOp}
+use Rattle.kid_term.specs.declared.operator.SeqOp.TheVariants.{Total}
 use Rattle.kid_term.specs.declared.operator.Binder.{Binder}
 use Rattle.kid_term.specs.Names.{same_name, Names, is_named, PlainDef, latest_over, latest_first}
 use Rattle.kid_term.specs.Eval.{Env, Calls, value_at, call_at, cast_value, head_value, binder_value, eval, evals, bound, def_value, calls_over, calls_of}
-use Rattle.kid_term.specs.Small.{is_small, Checks, check_at, head_small, binder_small, stays_small, all_stay_small, def_small, checks_over, checks_of}
+use Rattle.kid_term.specs.Small.{is_small, is_small_or_short, Checks, check_at, op_small, head_small, binder_small, stays_small, all_stay_small, def_small, checks_over, checks_of}
 use Rattle.kid_term.specs.Sorted.{Fault, Size, TermDeep, Kind, Bounds, Shadow, Sorted, allowed, with_set, ◌>>=◌}
+use Rattle.kid_term.specs.SeqRows.{seq_value}
+use Rattle.kid_term.specs.SeqSorts.{seq_sort}
+use Rattle.kid_term.specs.WordRows.{word_value}
+use Rattle.kid_term.specs.WordSorts.{word_sort}
+use Rattle.kid_term.specs.Written.{Numbers, written}
 use Rattle.kid_term.specs.Sorting.{sort_at, call_sort, cast_sort, head_sort, binder_sort, unshadowed, fit_parameters, least_sort, least_sorts, sort_of}
 use Rattle.kid_term.specs.Fitting.{IsOfSort, AreOfSorts, Fits, AreAllowed, IsSound, AreSoundOver, AreSound}
 use Rattle.kid_term.specs.Laws.{SortsAreKept}
 use Rattle.kid_term.proofs.Inversions.{bind_ok, ok, ok_same, allowed_ok, with_one_ok, with_set_ok, one_value}
 use Rattle.kid_term.proofs.LogicSound.{Sound, truth_sound, logic_sound, IsOfSort-subsort}
 use Rattle.kid_term.proofs.NumberSound.{interval_sound, number_sound}
+use Rattle.kid_term.proofs.PairSound.{pair_sound}
+use Rattle.kid_term.proofs.SetSound.{set_evaluates}
+use Rattle.kid_term.proofs.SeqSound.{seq_sound, total_small}
+use Rattle.kid_term.proofs.MapSound.{map_sound}
+use Rattle.kid_term.proofs.RowSound.{word_sound}
+use Rattle.kid_term.proofs.WrittenValues.{AreWritten, written_values}
 use Rattle.kid_term.proofs.Members.{Each, list_all-Each, AreMembers, members_sound}
 use Rattle.kid_term.proofs.BinderSound.{Evaluates, binder_sound}
 
@@ -43,6 +56,36 @@ small_of (pairs a b) (int n) h = let no' : false ≡ true = h.of_sort.has in cc
 small_of (sets a) (int n) h = let no' : false ≡ true = h.of_sort.has in cc
 small_of (seqs a m) (int n) h = let no' : false ≡ true = h.of_sort.has in cc
 small_of (maps a b) (int n) h = let no' : false ≡ true = h.of_sort.has in cc
+
+-- a sequence of an allowed sort is short
+short_of : (s : PlainSort) (v : PlainValue) → Sound s v → is_small_or_short v ≡ true
+short_of s (int n) h = small_of s (int n) h
+short_of s (bool b) h = refl
+short_of s (pair v w) h = refl
+short_of s (set vs) h = refl
+short_of s (map_of es) h = refl
+short_of (seqs a n) (seq vs) h =
+    let p = and_parts (nat_le (length (items vs)) n) (list_all (has_sort a) (items vs)) h.of_sort.has in
+    let q = and_parts (nat_le (sort_depth a + 1) 8) (is_bounded a && nat_le n 65536) h.sort_allowed in
+    let r = and_parts (is_bounded a) (nat_le n 65536) q.1 in
+    by (length (items vs)) n p.0 r.1
+  where
+    by : (m n : ℕ) → nat_le m n ≡ true → nat_le n 65536 ≡ true → in_limits (pos m) ≡ true
+    by m n p q = grind (arith, int_rules, nat_tests)
+short_of never (seq vs) h = let no' : false ≡ true = h.of_sort.has in cc
+short_of bools (seq vs) h = let no' : false ≡ true = h.of_sort.has in cc
+short_of (ints lo hi) (seq vs) h = let no' : false ≡ true = h.of_sort.has in cc
+short_of (pairs a b) (seq vs) h = let no' : false ≡ true = h.of_sort.has in cc
+short_of (sets a) (seq vs) h = let no' : false ≡ true = h.of_sort.has in cc
+short_of (maps a b) (seq vs) h = let no' : false ≡ true = h.of_sort.has in cc
+
+all_short : (ss : List PlainSort) (vs : List PlainValue) → list_all is_allowed ss ≡ true → AreOfSorts ss vs → list_all is_small_or_short vs ≡ true
+all_short [] [] q h = refl
+all_short [] (v ∷ vs) q h = absurd h
+all_short (s ∷ ss) [] q h = absurd h
+all_short (s ∷ ss) (v ∷ vs) q h =
+    let r = and_parts (is_allowed s) (list_all is_allowed ss) q in
+    and_both (is_small_or_short v) (list_all is_small_or_short vs) (short_of s v (record { of_sort = h.0; sort_allowed = r.0 })) (all_short ss vs r.1 h.1)
 
 or_none : (b c : Bool) → (b || c) ≡ false → (b ≡ false) × (c ≡ false)
 or_none true c p = cc
@@ -96,6 +139,10 @@ cast_sound a s ss vs p h =
           sort_allowed = x.1;
         }
 
+seq_evaluates : (o : SeqOp) (ss : List PlainSort) (vs : List PlainValue) (s : PlainSort) → seq_sort o ss ≡ Ok s → AreOfSorts ss vs → Evaluates s (seq_value o vs) (op_small (Seq o) vs)
+seq_evaluates Total ss vs s p h = record { sound = seq_sound Total ss vs s p h; stays = total_small ss vs s p h }
+seq_evaluates o ss vs s p h = record { sound = seq_sound o ss vs s p h; stays = refl }
+
 -- calls give values of the declared sorts, and their evaluation stays small
 pub record CallsFit (known : List PlainDef) (calls : Calls) (checks : Checks) : Type 0 where
   pub fits : (f : List ℕ) (ss : List PlainSort) (vs : List PlainValue) (s : PlainSort) → call_sort f known ss ≡ Ok s → AreOfSorts ss vs → Evaluates s (call_at f calls vs) (check_at f checks vs)
@@ -139,6 +186,7 @@ ok_lists a b p = cc
 -- the values of terms and what their evaluation meets
 pub record AllEvaluate (ss : List PlainSort) (vs : List PlainValue) (small : Bool) : Type 0 where
   pub of_sorts : AreOfSorts ss vs
+  pub sorts_allowed : list_all is_allowed ss ≡ true
   pub stay : small ≡ true
 
 -- the sorts that a sorted binder is made of
@@ -158,11 +206,17 @@ binder_ok known names b x u t s p =
     record { element = q.0; body = w.0; of_set = r.1 ∙ ap ok q.1; of_body = w.1; made = y.1 ∙ ap ok (unshadowed_ok x names y.0 s y.2) }
 
 module _ (known : List PlainDef) (calls : Calls) (checks : Checks) (fit : CallsFit known calls checks) where
-  head_sound : (g : PlainHead) (ss : List PlainSort) (vs : List PlainValue) (s : PlainSort) → head_sort known g ss ≡ Ok s → AreOfSorts ss vs → Evaluates s (head_value calls g vs) (head_small checks g vs)
-  head_sound (op (Logic o)) ss vs s p h = record { sound = logic_sound o ss vs s p h; stays = refl }
-  head_sound (op (Number o)) ss vs s p h = record { sound = number_sound o ss vs s p h; stays = refl }
-  head_sound (call f) ss vs s p h = fit.fits f ss vs s p h
-  head_sound (cast a) ss vs s p h = record { sound = cast_sound a s ss vs p h; stays = refl }
+  head_sound : (g : PlainHead) (ns : Numbers) (ss : List PlainSort) (vs : List PlainValue) (s : PlainSort) → head_sort known g ns ss ≡ Ok s → list_all is_allowed ss ≡ true
+      → AreOfSorts ss vs → AreWritten ns vs → Evaluates s (head_value calls g vs) (head_small checks g vs)
+  head_sound (op (Logic o)) ns ss vs s p q h e = record { sound = logic_sound o ss vs s p h; stays = refl }
+  head_sound (op (Number o)) ns ss vs s p q h e = record { sound = number_sound o ss vs s p h; stays = refl }
+  head_sound (op (Pair o)) ns ss vs s p q h e = record { sound = pair_sound o ss vs s p h; stays = refl }
+  head_sound (op (Set o)) ns ss vs s p q h e = set_evaluates o ss vs s p q h
+  head_sound (op (Seq o)) ns ss vs s p q h e = seq_evaluates o ss vs s p h
+  head_sound (op (Map o)) ns ss vs s p q h e = record { sound = map_sound o ss vs s p h; stays = refl }
+  head_sound (op (Word o)) ns ss vs s p q h e = record { sound = word_sound o ns ss vs s p h e; stays = all_short ss vs q h }
+  head_sound (call f) ns ss vs s p q h e = fit.fits f ss vs s p h
+  head_sound (cast a) ns ss vs s p q h e = record { sound = cast_sound a s ss vs p h; stays = refl }
 
   -- a binder over a set of e, given what is shown of the set and of the body at each member
   bound_sound : (b : Binder) (x : List ℕ) (u t : PlainTerm) (env : Env) (e body s : PlainSort)
@@ -192,9 +246,9 @@ module _ (known : List PlainDef) (calls : Calls) (checks : Checks) (fit : CallsF
         itself n = omega (arith, int_rules)
     evaluates (truth b) names env s p a h = record { sound = truth_sound b s p; stays = refl }
     evaluates (app g ts) names env s p a h =
-        let r = bind_ok (least_sorts known names ts) (head_sort known g) s p in
+        let r = bind_ok (least_sorts known names ts) (head_sort known g (written ts)) s p in
         let k = all_evaluate ts names env r.0 r.1 a h in
-        let w = head_sound g r.0 (evals calls env ts) s r.2 k.of_sorts in
+        let w = head_sound g (written ts) r.0 (evals calls env ts) s r.2 k.sorts_allowed k.of_sorts (written_values calls env ts) in
         record {
           sound = w.sound;
           stays = and_both _ _ (and_both (all_stay_small calls checks env ts) (head_small checks g (evals calls env ts)) k.stay w.stays) (small_of s (head_value calls g (evals calls env ts)) w.sound);
@@ -208,7 +262,12 @@ module _ (known : List PlainDef) (calls : Calls) (checks : Checks) (fit : CallsF
 
     pub all_evaluate : (ts : PlainTerms) (names : Names) (env : Env) (ss : List PlainSort) → least_sorts known names ts ≡ Ok ss → AreAllowed names → Fits names env
         → AllEvaluate ss (evals calls env ts) (all_stay_small calls checks env ts)
-    all_evaluate no_term names env ss p a h = record { of_sorts = subst (λ z. AreOfSorts z []) (ok_lists [] ss p) tt; stay = refl }
+    all_evaluate no_term names env ss p a h =
+        record {
+          of_sorts = subst (λ z. AreOfSorts z []) (ok_lists [] ss p) tt;
+          sorts_allowed = subst (λ z. list_all is_allowed z ≡ true) (ok_lists [] ss p) refl;
+          stay = refl;
+        }
     all_evaluate (term t ts) names env ss p a h =
         let r = bind_ok (least_sort known names t) (λ s. least_sorts known names ts >>= λ us. Ok (s ∷ us)) ss p in
         let q = bind_ok (least_sorts known names ts) (λ us. Ok (r.0 ∷ us)) ss r.2 in
@@ -216,6 +275,7 @@ module _ (known : List PlainDef) (calls : Calls) (checks : Checks) (fit : CallsF
         let l = all_evaluate ts names env q.0 q.1 a h in
         record {
           of_sorts = subst (λ z. AreOfSorts z (eval calls env t ∷ evals calls env ts)) (ok_lists (r.0 ∷ q.0) ss q.2) (k.sound.of_sort, l.of_sorts);
+          sorts_allowed = subst (λ z. list_all is_allowed z ≡ true) (ok_lists (r.0 ∷ q.0) ss q.2) (and_both (is_allowed r.0) (list_all is_allowed q.0) k.sound.sort_allowed l.sorts_allowed);
           stay = and_both (stays_small calls checks env t) (all_stay_small calls checks env ts) k.stays l.stay;
         }
 

@@ -10,8 +10,13 @@ use Rattle.kid_term.specs.PlainTerm.{PlainHead, op, call, cast, PlainTerm, var, 
 use Rattle.kid_term.specs.Names.{same_name, Names, PlainDef}
 use Rattle.kid_term.specs.LogicRows.{logic_value}
 use Rattle.kid_term.specs.NumberRows.{number_value}
+use Rattle.kid_term.specs.PairRows.{pair_value}
+use Rattle.kid_term.specs.SetRows.{set_value}
+use Rattle.kid_term.specs.SeqRows.{seq_value}
+use Rattle.kid_term.specs.MapRows.{map_value}
+use Rattle.kid_term.specs.WordRows.{word_value}
 use Rattle.kid_term.specs.declared.operator.Op.{Op}
-use Rattle.kid_term.specs.declared.operator.Op.TheVariants.{Logic, Number}
+use Rattle.kid_term.specs.declared.operator.Op.TheVariants.{Logic, Number, Pair, Set, Seq, Map, Word}
 use Rattle.kid_term.specs.declared.operator.Binder.{Binder}
 use Rattle.kid_term.specs.declared.operator.Binder.TheVariants as binder
 
@@ -34,6 +39,11 @@ call_at f (c ∷ calls) vs = cond (same_name f c.0) (c.1 vs) (call_at f calls vs
 abbrev pub op_value : Op → List PlainValue → PlainValue
 op_value (Logic o) = logic_value o
 op_value (Number o) = number_value o
+op_value (Pair o) = pair_value o
+op_value (Set o) = set_value o
+op_value (Seq o) = seq_value o
+op_value (Map o) = map_value o
+op_value (Word o) = word_value o
 
 -- the value where it has the sort, else the sort's least value
 abbrev pub cast_value : PlainSort → List PlainValue → PlainValue

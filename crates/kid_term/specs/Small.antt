@@ -1,12 +1,16 @@
 -- Whether every integer in the evaluation of a term stays within plus or minus 2^62, each sum on the way among them.
 use Rattle.std.specs.Prelude.{◌≡◌, ℕ, Bool, true, ◌&&◌, ℤ, pos, ◌+ℤ◌, nat_eq, cond, List, [], ◌∷◌, map, length}
 use Rattle.std.specs.List.{list_all}
-use Rattle.kid_value.specs.PlainValue.{PlainValue, int}
+use Rattle.kid_value.specs.PlainValue.{PlainValue, int, set, seq, items}
 use Rattle.kid_value.specs.PlainSort.{in_limits}
 use Rattle.kid_value.specs.Rows.{members_of, number_of}
-use Rattle.kid_term.specs.PlainTerm.{PlainHead, call, PlainTerm, var, number, truth, app, bind, PlainTerms, no_term, term}
+use Rattle.kid_term.specs.PlainTerm.{PlainHead, op, call, cast, PlainTerm, var, number, truth, app, bind, PlainTerms, no_term, term}
 use Rattle.kid_term.specs.Names.{same_name, PlainDef}
 use Rattle.kid_term.specs.Eval.{Env, Calls, value_at, head_value, eval, evals, bound, def_value, calls_of}
+use Rattle.kid_term.specs.declared.operator.Op.{Op}
+use Rattle.kid_term.specs.declared.operator.Op.TheVariants.{Set, Seq, Word}
+use Rattle.kid_term.specs.declared.operator.SetOp.TheVariants.{Sum}
+use Rattle.kid_term.specs.declared.operator.SeqOp.TheVariants.{Total}
 use Rattle.kid_term.specs.declared.operator.Binder.{Binder}
 use Rattle.kid_term.specs.declared.operator.Binder.TheVariants as binder
 
@@ -19,6 +23,27 @@ abbrev pub sums_small : ℤ → List PlainValue → Bool
 sums_small n [] = is_small (int n)
 sums_small n (v ∷ vs) = is_small (int n) && sums_small (n +ℤ number_of v) vs
 
+-- the sum of a set's members and that of a sequence's items, with each sum on the way
+abbrev pub members_small : List PlainValue → Bool
+members_small (set vs ∷ []) = sums_small (pos 0) (items vs)
+members_small vs = true
+
+abbrev pub items_small : List PlainValue → Bool
+items_small (seq vs ∷ []) = sums_small (pos 0) (items vs)
+items_small vs = true
+
+-- whether a number stays small, or the number of a sequence's items
+abbrev pub is_small_or_short : PlainValue → Bool
+is_small_or_short (int n) = in_limits n
+is_small_or_short (seq vs) = in_limits (pos (length (items vs)))
+is_small_or_short v = true
+
+abbrev pub op_small : Op → List PlainValue → Bool
+op_small (Set Sum) vs = members_small vs
+op_small (Seq Total) vs = items_small vs
+op_small (Word o) vs = list_all is_small_or_short vs
+op_small o vs = true
+
 -- whether each definition's evaluation at its arguments stays small, the last definition first
 abbrev pub Checks : Type 0
 Checks = List (List ℕ × (List PlainValue → Bool))
@@ -29,7 +54,8 @@ check_at f (c ∷ checks) vs = cond (same_name f c.0) (c.1 vs) (check_at f check
 
 abbrev pub head_small : Checks → PlainHead → List PlainValue → Bool
 head_small checks (call f) vs = check_at f checks vs
-head_small checks h vs = true
+head_small checks (op o) vs = op_small o vs
+head_small checks (cast s) vs = true
 
 abbrev pub binder_small : Binder → List PlainValue → (PlainValue → PlainValue) → Bool
 binder_small binder.SumOf vs f = sums_small (pos 0) (map f vs)

@@ -7,14 +7,26 @@ use Rattle.kid_term.specs.Names.{same_name, Names, is_named, PlainDef, latest_fi
 use Rattle.kid_term.specs.Sorted.{Fault, Size, TermDeep, Unknown, Kind, Bounds, Shadow, Sorted, ◌>>=◌, allowed, with_one, with_bool, with_set}
 use Rattle.kid_term.specs.LogicSorts.{logic_sort}
 use Rattle.kid_term.specs.NumberSorts.{number_sort}
+use Rattle.kid_term.specs.PairSorts.{pair_sort}
+use Rattle.kid_term.specs.SetSorts.{set_sort}
+use Rattle.kid_term.specs.SeqSorts.{seq_sort}
+use Rattle.kid_term.specs.MapSorts.{map_sort}
+use Rattle.kid_term.specs.WordSorts.{word_sort}
+use Rattle.kid_term.specs.Written.{Numbers, written}
+pub use Rattle.kid_term.specs.SumSort.{sum_sort}
 use Rattle.kid_term.specs.declared.operator.Op.{Op}
-use Rattle.kid_term.specs.declared.operator.Op.TheVariants.{Logic, Number}
+use Rattle.kid_term.specs.declared.operator.Op.TheVariants.{Logic, Number, Pair, Set, Seq, Map, Word}
 use Rattle.kid_term.specs.declared.operator.Binder.{Binder}
 use Rattle.kid_term.specs.declared.operator.Binder.TheVariants as binder
 
-abbrev pub op_sort : Op → List PlainSort → Sorted
-op_sort (Logic o) = logic_sort o
-op_sort (Number o) = number_sort o
+abbrev pub op_sort : Op → Numbers → List PlainSort → Sorted
+op_sort (Logic o) ns = logic_sort o
+op_sort (Number o) ns = number_sort o
+op_sort (Pair o) ns = pair_sort o
+op_sort (Set o) ns = set_sort o
+op_sort (Seq o) ns = seq_sort o
+op_sort (Map o) ns = map_sort o
+op_sort (Word o) ns = word_sort o ns
 
 abbrev pub sort_at : List ℕ → Names → Sorted
 sort_at x [] = Err Unknown
@@ -34,16 +46,11 @@ call_sort f (d ∷ known) ss = cond (same_name f d.name) (cond (fit_parameters d
 abbrev pub cast_sort : PlainSort → List PlainSort → Sorted
 cast_sort s ss = with_one ss (λ _. cond (has_never s) (Err Bounds) (allowed s))
 
-abbrev pub head_sort : List PlainDef → PlainHead → List PlainSort → Sorted
-head_sort known (op o) ss = op_sort o ss
-head_sort known (call f) ss = call_sort f known ss
-head_sort known (cast s) ss = cast_sort s ss
-
--- the sort of a sum of at most num numbers
-abbrev pub sum_sort : ℕ → PlainSort → Sorted
-sum_sort num (ints lo hi) = allowed (ints (pos num *ℤ int_min (pos 0) lo) (pos num *ℤ int_max (pos 0) hi))
-sum_sort num never = Ok (ints (pos 0) (pos 0))
-sum_sort num s = Err Kind
+-- the sort of a head before arguments of these sorts, of which some are written as numbers
+abbrev pub head_sort : List PlainDef → PlainHead → Numbers → List PlainSort → Sorted
+head_sort known (op o) ns ss = op_sort o ns ss
+head_sort known (call f) ns ss = call_sort f known ss
+head_sort known (cast s) ns ss = cast_sort s ss
 
 -- what a binder gives over a set of a where its body is of the sort
 abbrev pub binder_sort : Binder → PlainSort → PlainSort → Sorted
@@ -63,7 +70,7 @@ abbrev mutual
   least_sort known names (var x) = sort_at x names
   least_sort known names (number n) = allowed (ints n n)
   least_sort known names (truth b) = Ok bools
-  least_sort known names (app h ts) = least_sorts known names ts >>= head_sort known h
+  least_sort known names (app h ts) = least_sorts known names ts >>= head_sort known h (written ts)
   least_sort known names (bind b x s t) =
       least_sort known names s >>= λ set. with_set set (λ a.
       least_sort known ((x, a) ∷ names) t >>= λ body.

@@ -1,8 +1,9 @@
 //! Definitions.
-ghost use Rattle.std.specs.Prelude.{◌≡◌, ◌∷◌, ◌++◌, [], OnOk, OnErr, map, length};
+ghost use Rattle.std.specs.Prelude.{◌≡◌, ◌∷◌, ◌++◌, [], IfOk, OnOk, OnErr, map, length};
 ghost use Rattle.kid_term.specs.DefView.{plain_def};
 
 use crate::Term;
+use crate::names::copied;
 use kid_value::{Memory, Names, Sort, Text};
 use std::alloc::Global;
 use std::marker::Model;
@@ -37,6 +38,24 @@ impl Model for Defs {
     ghost view = { λ d. map plain_def d.items.items };
 }
 
+impl Def {
+    /// An equal definition.
+    ///
+    /// # Errors
+    ///
+    /// Fails where memory is wanting.
+    pub fn copy(&self, alloc: Global) -> Result<Def, Memory>
+        ensures { IfOk result (λ d. plain_def d ≡ plain_def self.now) }
+    {
+        Ok(Def {
+            name: self.name.copy(alloc)?,
+            parameters: copied(alloc, &self.parameters)?,
+            sort: self.sort.copy(alloc)?,
+            body: self.body.copy(alloc)?,
+        })
+    }
+}
+
 impl Defs {
     /// No definitions. Takes no memory.
     pub fn new(alloc: Global) -> Defs
@@ -58,6 +77,21 @@ impl Defs {
     {
         self.items.push(def)?;
         Ok(())
+    }
+
+    /// Equal definitions in the same order.
+    ///
+    /// # Errors
+    ///
+    /// Fails where memory is wanting.
+    pub fn copy(&self, alloc: Global) -> Result<Defs, Memory>
+        ensures { IfOk result (λ ds. ds ≡ self.now) }
+    {
+        let mut copies = Defs::new(alloc);
+        for definition in self.items() {
+            copies.push(definition.copy(alloc)?)?;
+        }
+        Ok(copies)
     }
 
     /// How many definitions there are.

@@ -8,23 +8,33 @@ use kid_value::{Memory, Sort, Text};
 use std::alloc::Global;
 use std::marker::Model;
 
+pub mod call_depth;
 mod copy;
 pub mod definition;
 mod equality;
 pub mod law;
+pub mod names;
 pub mod operator;
 pub mod path;
 mod place;
+mod refine_form;
 pub mod rename;
 mod size;
+mod spec;
 pub mod substitute;
+mod why;
+mod word;
 
+pub use call_depth::{CallDepths, MAX_CALL_DEPTH};
 pub use definition::{Def, Defs};
 pub use equality::same;
-pub use operator::{Binder, LogicOp, NumberOp, Op};
+pub use operator::{Binder, LogicOp, MapOp, NumberOp, Op, PairOp, SeqOp, SetOp, WordOp};
 pub use path::Path;
+pub use refine_form::RefineForm;
 pub use rename::RenameFault;
+pub use spec::Spec;
 pub use substitute::SubstFault;
+pub use why::Why;
 
 /// A number or a truth value.
 #[derive(Clone, Copy, Debug, PartialEq, Eq)]

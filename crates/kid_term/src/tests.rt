@@ -1,6 +1,6 @@
 use crate::{
     Binder, BoxedTerm, Def, Defs, Head, Literal, NumberOp, Op, Path, RenameFault, SubstFault, Term,
-    Terms, same,
+    Terms, WordOp, same,
 };
 use kid_value::{Memory, Names, Sort, Text};
 use std::alloc::Global;
@@ -27,6 +27,16 @@ fn all_above(alloc: Global, free: &str, bound: &str) -> Result<Term, Memory> {
     let set = BoxedTerm::new(alloc, var(alloc, "s")?)?;
     let body = BoxedTerm::new(alloc, at_most(alloc, free, bound)?)?;
     Ok(Term::Bind(Binder::All, name(alloc, bound)?, set, body))
+}
+
+// (image x s (wcard r))
+fn sizes(alloc: Global) -> Result<Term, Memory> {
+    let set = BoxedTerm::new(alloc, var(alloc, "s")?)?;
+    let mut args = Terms::new(alloc);
+    args.push(var(alloc, "r")?)?;
+    let size = Term::App(Head::Op(Op::Word(WordOp::Wcard)), args);
+    let body = BoxedTerm::new(alloc, size)?;
+    Ok(Term::Bind(Binder::Image, name(alloc, "x")?, set, body))
 }
 
 fn path(alloc: Global, steps: &[u32]) -> Result<Path, Memory> {
@@ -134,5 +144,12 @@ fn keeps_definitions(rt: HostRuntime) -> Result<(), Fail> {
         body,
     })?;
     assert!(rt; defs.len() == 1);
+    Ok(())
+}
+
+#[test]
+fn holds_word_operators(rt: HostRuntime) -> Result<(), Fail> {
+    assert!(rt; sizes(rt.alloc())?.holds_word_operator());
+    assert!(rt; !all_above(rt.alloc(), "x", "y")?.holds_word_operator());
     Ok(())
 }

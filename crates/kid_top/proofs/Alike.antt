@@ -4,6 +4,7 @@ use Rattle.std.specs.Prelude.{nat_le, length, if◌then◌else◌}
 use Rattle.kid_sexp.specs.Reading.{reading}
 use Rattle.kid_term.specs.Eval.{Env}
 use Rattle.kid_term.specs.Names.{Names}
+use Rattle.kid_kernel.specs.PlainTheory.{PlainTheory}
 use Rattle.kid_prog.specs.declared.fault.LoadCode.TheVariants as code
 use Rattle.kid_prog.specs.Laws.{program_text}
 use Rattle.kid_prog.specs.Loading.{refused, from_forest, loading}
@@ -11,12 +12,10 @@ use Rattle.kid_prog.specs.PlainProgram.{PlainProgram}
 use Rattle.kid_top.specs.declared.stop.Stop.{Stop}
 use Rattle.kid_top.specs.Derivation.{derivation_text}
 use Rattle.kid_top.specs.Ends.{RunsAlike}
-use Rattle.kid_top.specs.Files.{theory_file}
-use Rattle.kid_top.specs.Outcome.{◌>>=◌, Work, runs, saves, stage, program_or, program_file, program_stage, inputs_stage, script_program, run_inputs}
-use Rattle.kid_top.specs.Theory.{PlainTheory}
+use Rattle.kid_top.specs.Outcome.{◌>>=◌, Work, runs, saves, theory_stage, program_or, program_file, program_stage, inputs_stage, script_program, run_inputs}
 use Rattle.kid_top.proofs.Derives.{derive_parts}
 use Rattle.kid_top.proofs.Headline.{solve_parts}
-use Rattle.kid_top.proofs.Outcomes.{same_ok, theory_stage_taken, script_gives}
+use Rattle.kid_top.proofs.Outcomes.{same_ok, stage_theory, script_gives}
 
 -- the saved text
 saved_text : (derivation program bytes text derivation_bytes program_bytes : List ℕ)
@@ -55,9 +54,9 @@ runs_alike files theory script inputs derivation program bytes text fuel w d hel
     let t : PlainTheory = a.of_theory in
     let p : PlainProgram = a.of_program in
     let xs : List Env = b.of_inputs in
-    let one_theory = same_ok (stage 1 theory_file (files theory)) t b.of_theory a.theory_read b.theory_read in
+    let one_theory = same_ok (theory_stage 1 (files theory)) t b.of_theory a.theory_read b.theory_read in
     let one_program = same_ok (script_program t (files script)) p b.program a.derived (ap (λ (u : PlainTheory). script_program u (files script)) one_theory ∙ b.derived) in
-    let given = script_gives t (files script) p (theory_stage_taken 1 (files theory) t a.theory_read).spelled a.derived in
+    let given = script_gives t (files script) p (stage_theory 1 (files theory) t a.theory_read) a.derived in
     let is_text = saved_text derivation program bytes text (derivation_text p) (program_text p) a.is in
     let staged : program_stage 1 (files program) ≡ Ok p =
     ap (program_stage 1) (held ∙ ap (λ (u : List ℕ). Some u) (sym is_text)) ∙ text_stage 1 (program_text p) p given.loads in

@@ -5,22 +5,21 @@ use Rattle.std.specs.Str.{bytes_eq}
 use Rattle.kid_outer.specs.Held.{Held, update}
 use Rattle.kid_term.specs.Eval.{Env}
 use Rattle.kid_codec.proofs.Numbers.{bytes_eq-itself, bytes_eq-true}
+use Rattle.kid_kernel.specs.PlainTheory.{PlainTheory}
+use Rattle.kid_theory.specs.IsTheory.{IsTheory}
 use Rattle.kid_prog.specs.Laws.{program_text}
 use Rattle.kid_prog.specs.PlainProgram.{PlainProgram}
 use Rattle.kid_top.specs.declared.stop.Stop.{Stop}
 use Rattle.kid_top.specs.Derivation.{derivation_text}
 use Rattle.kid_top.specs.Emitted.{emitted}
 use Rattle.kid_top.specs.Ends.{Derived}
-use Rattle.kid_top.specs.Files.{theory_file}
 use Rattle.kid_top.specs.Finishing.{WorkSaves}
-use Rattle.kid_top.specs.Outcome.{Work, saves, stage, script_program, derive_theory, derive_work}
+use Rattle.kid_top.specs.Outcome.{Work, saves, theory_stage, script_program, derive_theory, derive_work}
 use Rattle.kid_top.specs.Printed.{FindsAnswers, Implements}
 use Rattle.kid_top.specs.Search.{range_count}
-use Rattle.kid_top.specs.Theory.{PlainTheory}
 use Rattle.kid_top.proofs.EmittedSearch.{Searchable, emitted-answer, emitted-whole}
-use Rattle.kid_top.proofs.Outcomes.{bind_ok, same_ok, theory_stage_taken, script_searches}
+use Rattle.kid_top.proofs.Outcomes.{bind_ok, same_ok, stage_theory, script_searches}
 use Rattle.kid_top.proofs.Searches.{Searches}
-use Rattle.kid_top.proofs.Spellings.{IsTaken}
 
 -- ---- the program solves the theory
 
@@ -32,14 +31,14 @@ emitted_finds t lo hi x can =
 pub searched_implements : (t : PlainTheory) (p : PlainProgram) → Searches t p → Implements t p
 searched_implements t p s x = subst (λ (q : PlainProgram). FindsAnswers t q x) (sym s.is) (emitted_finds t s.lo s.hi x s.can)
 
-pub derived_implements : (t : PlainTheory) (script : Option (List ℕ)) (p : PlainProgram) → IsTaken t → script_program t script ≡ Ok p → Implements t p
-derived_implements t script p taken e = searched_implements t p (script_searches t script p taken e)
+pub derived_implements : (t : PlainTheory) (script : Option (List ℕ)) (p : PlainProgram) → IsTheory t → script_program t script ≡ Ok p → Implements t p
+derived_implements t script p is e = searched_implements t p (script_searches t script p is e)
 
 -- ---- the work of deriving
 
 pub record Derives (files : Held) (theory script derivation program : List ℕ) (w : Work) : Type 0 where
   pub of_theory : PlainTheory
-  pub theory_read : stage 1 theory_file (files theory) ≡ Ok of_theory
+  pub theory_read : theory_stage 1 (files theory) ≡ Ok of_theory
   pub of_program : PlainProgram
   pub derived : script_program of_theory (files script) ≡ Ok of_program
   pub is : saves derivation program (derivation_text of_program) (program_text of_program) ≡ w
@@ -47,7 +46,7 @@ pub record Derives (files : Held) (theory script derivation program : List ℕ) 
 pub derive_parts : (files : Held) (theory script derivation program : List ℕ) (w : Work) → derive_work files theory script derivation program ≡ Ok w
     → Derives files theory script derivation program w
 derive_parts files theory script derivation program w e =
-    let a = bind_ok (stage 1 theory_file (files theory)) (derive_theory files script derivation program) w e in
+    let a = bind_ok (theory_stage 1 (files theory)) (derive_theory files script derivation program) w e in
     let t : PlainTheory = a.0 in
     let ready : PlainProgram → Result Work Stop = λ p. Ok (saves derivation program (derivation_text p) (program_text p)) in
     let b = bind_ok (script_program t (files script)) ready w a.2 in
@@ -87,7 +86,7 @@ derive_held files after theory script derivation program w apart e saved =
       theory_read = r.theory_read;
       of_program = p;
       derived = r.derived;
-      implements = derived_implements r.of_theory (files script) p (theory_stage_taken 1 (files theory) r.of_theory r.theory_read) r.derived;
+      implements = derived_implements r.of_theory (files script) p (stage_theory 1 (files theory) r.of_theory r.theory_read) r.derived;
       derivation_saved = ap (λ (held : Held). held derivation) is ∙ held_first files derivation program bytes text apart;
       program_saved = ap (λ (held : Held). held program) is ∙ held_last files derivation program bytes text;
     }

@@ -7,26 +7,27 @@ use Rattle.kid_value.specs.PlainValue.{PlainValue, int}
 use Rattle.kid_value.specs.PlainSort.{PlainSort, bools, ints}
 use Rattle.kid_value.specs.Least.{least_value}
 use Rattle.kid_value.specs.Rows.{truth_of}
-use Rattle.kid_term.specs.Names.{same_name, is_named}
+use Rattle.kid_term.specs.Names.{same_name, is_named, latest_first}
+use Rattle.kid_term.specs.PlainSpec.{relation_scope}
 use Rattle.kid_term.specs.Eval.{Env, value_at, cast_value, eval}
 use Rattle.kid_term.specs.Sorting.{sort_of}
 use Rattle.kid_term.specs.Substitution.{replaced, captures}
 use Rattle.kid_term.proofs.EvalLemmas.{eval-substituted}
 use Rattle.kid_term.proofs.SortedValue.{sort_of_ok}
+use Rattle.kid_kernel.specs.PlainTheory.{PlainTheory}
 use Rattle.kid_run.specs.Running.{Event, called, found, procedure}
-use Rattle.kid_top.specs.Theory.{PlainTheory, scope_of}
-use Rattle.kid_top.specs.Answer.{relates_at}
+use Rattle.kid_top.specs.Answer.{theory_calls, relates_at}
 use Rattle.kid_top.specs.Search.{middle}
 use Rattle.kid_top.specs.Emitted.{emitted, leaf, is_apart, takes_leaf}
 use Rattle.kid_top.proofs.Scopes.{eval-in_scope, names-differ}
 
 -- the theory's program searches its sort
 pub record Searchable (t : PlainTheory) (lo hi : ℤ) : Type 0 where
-  pub of_sort : t.sort ≡ ints lo hi
+  pub of_sort : t.spec.sort ≡ ints lo hi
   pub ordered : lo ≤ℤ hi
   pub apart : is_apart t ≡ true
   pub takes : takes_leaf t ≡ true
-  pub sorted : sort_of [] (scope_of t) t.relation ≡ Ok bools
+  pub sorted : sort_of t.signature.definitions (relation_scope t.spec) t.spec.relation ≡ Ok bools
 
 -- what the search procedure does from l to h, where calls lie at most n deep
 abbrev pub begun : PlainTheory → ℤ → ℤ → Env → ℕ → ℤ → ℤ → List Event
@@ -56,20 +57,20 @@ cast-keeps s lo hi l is low high =
 
 -- a name of the relation's scope has its value beside the ends
 beside_ends : (t : PlainTheory) (x : Env) (l h : ℤ) (v : PlainValue) → is_apart t ≡ true
-    → (y : List ℕ) → is_named y (scope_of t) ≡ true → value_at y ((t.output, v) ∷ ends l h x) ≡ value_at y ((t.output, v) ∷ x)
+    → (y : List ℕ) → is_named y (relation_scope t.spec) ≡ true → value_at y ((t.spec.output, v) ∷ ends l h x) ≡ value_at y ((t.spec.output, v) ∷ x)
 beside_ends t x l h v apart y inside =
-    let parts = neither (is_named (codes "low") (scope_of t)) (is_named (codes "high") (scope_of t)) apart in
-    ap (λ d. cond (same_name y t.output) v (cond d (int l) (cond (same_name y (codes "high")) (int h) (value_at y x))))
-    (names-differ y (codes "low") (scope_of t) inside parts.0)
-    ∙ ap (λ d. cond (same_name y t.output) v (cond d (int h) (value_at y x))) (names-differ y (codes "high") (scope_of t) inside parts.1)
+    let parts = neither (is_named (codes "low") (relation_scope t.spec)) (is_named (codes "high") (relation_scope t.spec)) apart in
+    ap (λ d. cond (same_name y t.spec.output) v (cond d (int l) (cond (same_name y (codes "high")) (int h) (value_at y x))))
+    (names-differ y (codes "low") (relation_scope t.spec) inside parts.0)
+    ∙ ap (λ d. cond (same_name y t.spec.output) v (cond d (int h) (value_at y x))) (names-differ y (codes "high") (relation_scope t.spec) inside parts.1)
 
 -- the relation with the leaf in the output's place has its value at the leaf's integer
 relation-value : (t : PlainTheory) (lo hi : ℤ) (x : Env) (l h : ℤ) → Searchable t lo hi → lo ≤ℤ l → l ≤ℤ hi
-    → eval [] (ends l h x) (replaced t.output (leaf t.sort) t.relation) ≡ eval [] ((t.output, int l) ∷ x) t.relation
+    → eval (theory_calls t) (ends l h x) (replaced t.spec.output (leaf t.spec.sort) t.spec.relation) ≡ eval (theory_calls t) ((t.spec.output, int l) ∷ x) t.spec.relation
 relation-value t lo hi x l h can low high =
-    eval-substituted [] (ends l h x) t.output (leaf t.sort) t.relation (not_true (captures t.output (leaf t.sort) t.relation) can.takes)
-    ∙ ap (λ v. eval [] ((t.output, v) ∷ ends l h x) t.relation) (cast-keeps t.sort lo hi l can.of_sort low high)
-    ∙ eval-in_scope [] [] (scope_of t) t.relation bools ((t.output, int l) ∷ ends l h x) ((t.output, int l) ∷ x) (sort_of_ok [] (scope_of t) t.relation bools can.sorted).2
+    eval-substituted (theory_calls t) (ends l h x) t.spec.output (leaf t.spec.sort) t.spec.relation (not_true (captures t.spec.output (leaf t.spec.sort) t.spec.relation) can.takes)
+    ∙ ap (λ v. eval (theory_calls t) ((t.spec.output, v) ∷ ends l h x) t.spec.relation) (cast-keeps t.spec.sort lo hi l can.of_sort low high)
+    ∙ eval-in_scope (theory_calls t) (latest_first t.signature.definitions) (relation_scope t.spec) t.spec.relation bools ((t.spec.output, int l) ∷ ends l h x) ((t.spec.output, int l) ∷ x) (sort_of_ok t.signature.definitions (relation_scope t.spec) t.spec.relation bools can.sorted).2
     (beside_ends t x l h (int l) can.apart)
 
 -- ---- the call
@@ -81,7 +82,7 @@ one_call good v wide lower upper = called ∷ (cond good (found v ∷ []) [] ++ 
 call-computes : (t : PlainTheory) (lo hi : ℤ) (x : Env) (n : ℕ) (l h : ℤ)
     → begun t lo hi x (suc n) l h
     ≡ called
-    ∷ (cond (int_eq l h) (cond (truth_of (eval [] (ends l h x) (replaced t.output (leaf t.sort) t.relation))) (found (cast_value t.sort (int l ∷ [])) ∷ []) [] ++ []) []
+    ∷ (cond (int_eq l h) (cond (truth_of (eval (theory_calls t) (ends l h x) (replaced t.spec.output (leaf t.spec.sort) t.spec.relation))) (found (cast_value t.spec.sort (int l ∷ [])) ∷ []) [] ++ []) []
     ++ (cond (int_lt l h) ((begun t lo hi x n l (middle l h) ++ []) ++ ((begun t lo hi x n (middle l h +ℤ pos 1) h ++ []) ++ [])) [] ++ []))
 call-computes t lo hi x n l h = refl
 
@@ -97,11 +98,11 @@ both-halves false lower upper = refl
 
 pub call-is : (t : PlainTheory) (lo hi : ℤ) (x : Env) (n : ℕ) (l h : ℤ) → Searchable t lo hi → lo ≤ℤ l → l ≤ℤ hi
     → begun t lo hi x (suc n) l h
-    ≡ one_call (int_eq l h && relates_at x t.output t.relation l) (int l) (int_lt l h) (begun t lo hi x n l (middle l h)) (begun t lo hi x n (middle l h +ℤ pos 1) h)
+    ≡ one_call (int_eq l h && relates_at (theory_calls t) x t.spec.output t.spec.relation l) (int l) (int_lt l h) (begun t lo hi x n l (middle l h)) (begun t lo hi x n (middle l h +ℤ pos 1) h)
 call-is t lo hi x n l h can low high =
     call-computes t lo hi x n l h
     ∙ ap₂ (λ es fs. called ∷ (es ++ fs))
     (ap₂ (λ good v. cond (int_eq l h) (cond good (found v ∷ []) [] ++ []) [])
-    (ap truth_of (relation-value t lo hi x l h can low high)) (cast-keeps t.sort lo hi l can.of_sort low high)
-    ∙ both-tests (int_eq l h) (relates_at x t.output t.relation l) (int l))
+    (ap truth_of (relation-value t lo hi x l h can low high)) (cast-keeps t.spec.sort lo hi l can.of_sort low high)
+    ∙ both-tests (int_eq l h) (relates_at (theory_calls t) x t.spec.output t.spec.relation l) (int l))
     (both-halves (int_lt l h) (begun t lo hi x n l (middle l h)) (begun t lo hi x n (middle l h +ℤ pos 1) h))

@@ -9,9 +9,9 @@ use Rattle.std.proofs.lemmas.Int.{ints as int_rules}
 use Rattle.std.proofs.lemmas.List.{map-append}
 use Rattle.kid_value.specs.PlainValue.{PlainValue, int}
 use Rattle.kid_term.specs.Eval.{Env}
+use Rattle.kid_kernel.specs.PlainTheory.{PlainTheory}
 use Rattle.kid_run.specs.Running.{Event, found, program_events, run_of}
-use Rattle.kid_top.specs.Theory.{PlainTheory}
-use Rattle.kid_top.specs.Answer.{relates_at, Answer}
+use Rattle.kid_top.specs.Answer.{theory_calls, relates_at, Answer}
 use Rattle.kid_top.specs.Search.{Interval, visit, visited, middle, range_leaf, range_kids, range_visit, range_visits, range_search, range_count}
 use Rattle.kid_top.specs.Emitted.{emitted}
 use Rattle.kid_top.proofs.Ranges.{middle_between, gaps_add, length-both}
@@ -95,7 +95,7 @@ upper-ordered l h lt = omega (arith, int_rules, (middle_between l h lt).1)
 
 module _ (t : PlainTheory) (lo hi : ℤ) (x : Env) (can : Searchable t lo hi) where
   abbrev good : ℤ → Bool
-  good = relates_at x t.output t.relation
+  good = relates_at (theory_calls t) x t.spec.output t.spec.relation
 
   -- a call that is followed by few enough others is a visit, however deep
   call-visits : (m n : ℕ) (l h : ℤ) → lo ≤ℤ l → h ≤ℤ hi → l ≤ℤ h → int_gap l h < n → calls_in (begun t lo hi x m l h) ≤ m → IsVisit good n l h (begun t lo hi x m l h)
@@ -148,7 +148,7 @@ module _ (t : PlainTheory) (lo hi : ℤ) (x : Env) (can : Searchable t lo hi) wh
 
 -- a whole run of the program that is emitted for a theory finds what the search of its sort finds, by as many calls as that has visits
 pub emitted-run : (t : PlainTheory) (lo hi : ℤ) (x : Env) (fuel : ℕ) → Searchable t lo hi → (run_of (emitted t lo hi) x fuel).whole ≡ true
-    → ((run_of (emitted t lo hi) x fuel).values ≡ map int (range_search (relates_at x t.output t.relation) (lo, hi)))
+    → ((run_of (emitted t lo hi) x fuel).values ≡ map int (range_search (relates_at (theory_calls t) x t.spec.output t.spec.relation) (lo, hi)))
     × ((run_of (emitted t lo hi) x fuel).calls ≡ range_count (lo, hi))
 emitted-run t lo hi x fuel can whole =
     let all = whole-is_all (program_events (emitted t lo hi) x fuel) fuel whole in

@@ -1,24 +1,27 @@
 -- What the program for a theory is, and that it has a spelling where the theory has one.
-use Rattle.std.proofs.Common.{◌≡◌, ℕ, suc, ℤ, Bool, true, false, cond, List, length, Some, refl, sym, ap, ◌∙◌, arith}
-use Rattle.std.specs.Prelude.{pos, negsuc, neg_ℤ, ◌+ℤ◌, ◌-ℤ◌, ◌≤ℤ◌, int_lt, int_le, ◌&&◌, codes}
+use Rattle.std.proofs.Common.{◌≡◌, ℕ, zero, suc, ℤ, Bool, true, false, cond, List, length, Some, refl, sym, ap, ◌∙◌, arith}
+use Rattle.std.specs.Prelude.{pos, negsuc, neg_ℤ, ◌+ℤ◌, ◌-ℤ◌, ◌≤ℤ◌, int_lt, int_le, ◌&&◌, ◌==◌, is_some, codes}
 use Rattle.std.specs.List.{list_all}
 use Rattle.std.proofs.lemmas.Int.{ints as int_rules}
 use Rattle.kid_value.specs.PlainSort.{PlainSort, never, bools, ints, pairs, sets, seqs, maps, in_limits}
 use Rattle.kid_value.proofs.SortLemmas.{and_parts, and_both}
 use Rattle.kid_term.specs.Names.{same_name}
-use Rattle.kid_term.specs.PlainTerm.{PlainTerm, var, number, truth, app, bind, PlainTerms, no_term, term, terms}
+use Rattle.kid_term.specs.PlainTerm.{PlainHead, op, call, cast, PlainTerm, var, number, truth, app, bind, PlainTerms, no_term, term, terms}
 use Rattle.kid_term.specs.Substitution.{replaced, replaced_in}
+use Rattle.kid_term.specs.Written.{number_in}
 use Rattle.kid_codec.specs.Name as name
 use Rattle.kid_codec.specs.Name.{is_name}
 use Rattle.kid_codec.specs.SortSpelling.{is_spelled_sort}
-use Rattle.kid_codec.specs.TermSpelling.{is_spelled_head, is_spelled_term, are_spelled_terms}
+use Rattle.kid_codec.specs.DeclaredSpelling.{is_spelled_name, is_spelled_definition}
+use Rattle.kid_codec.specs.TermSpelling.{begin_with_numbers, is_spelled_head, is_spelled_term, are_spelled_terms}
+use Rattle.kid_codec.specs.Word.{takes, numbers_first}
 use Rattle.kid_codec.proofs.Found.{same_some, if_some}
+use Rattle.kid_kernel.specs.PlainTheory.{PlainTheory}
+use Rattle.kid_theory.specs.IsTheory.{is_spelled_theory}
 use Rattle.kid_prog.specs.PlainProgram.{PlainProgram}
-use Rattle.kid_prog.specs.Spelling.{is_spelled_name, is_spelled_stmt, is_spelled_program}
+use Rattle.kid_prog.specs.Spelling.{is_spelled_stmt, is_spelled_program}
 use Rattle.kid_prog.proofs.ProgramParts.{spelled_whole}
 use Rattle.kid_top.specs.Emitted.{equal_ends, leaf, leaf_part, kid_part, emitted, is_apart, takes_leaf, has_ends, if_takes_leaf, program_at, program_for}
-use Rattle.kid_top.specs.Spelled.{is_spelled_theory}
-use Rattle.kid_top.specs.Theory.{PlainTheory}
 
 -- ---- the program for a theory
 
@@ -26,13 +29,13 @@ use Rattle.kid_top.specs.Theory.{PlainTheory}
 pub record Emits (t : PlainTheory) (p : PlainProgram) : Type 0 where
   pub lo : ℤ
   pub hi : ℤ
-  pub of_sort : t.sort ≡ ints lo hi
+  pub of_sort : t.spec.sort ≡ ints lo hi
   pub ends : has_ends lo hi ≡ true
   pub apart : is_apart t ≡ true
   pub takes : takes_leaf t ≡ true
   pub is : p ≡ emitted t lo hi
 
-program_at_emits : (t : PlainTheory) (p : PlainProgram) (s : PlainSort) → t.sort ≡ s → program_at t s ≡ Some p → Emits t p
+program_at_emits : (t : PlainTheory) (p : PlainProgram) (s : PlainSort) → t.spec.sort ≡ s → program_at t s ≡ Some p → Emits t p
 program_at_emits t p never of e = cc
 program_at_emits t p bools of e = cc
 program_at_emits t p (ints lo hi) of e =
@@ -46,7 +49,7 @@ program_at_emits t p (seqs a n) of e = cc
 program_at_emits t p (maps a b) of e = cc
 
 pub program_emits : (t : PlainTheory) (p : PlainProgram) → program_for t ≡ Some p → Emits t p
-program_emits t p e = program_at_emits t p t.sort refl e
+program_emits t p e = program_at_emits t p t.spec.sort refl e
 
 -- ---- replaced terms
 
@@ -58,15 +61,38 @@ length-replaced : (x : List ℕ) (new : PlainTerm) (ts : PlainTerms) → length 
 length-replaced x new no_term = refl
 length-replaced x new (term t ts) = ap suc (length-replaced x new ts)
 
+-- a number stays as it is
+stays_number : (x : List ℕ) (new t : PlainTerm) → is_some (number_in t) ≡ true → is_some (number_in (replaced x new t)) ≡ true
+stays_number x new (number n) h = refl
+stays_number x new t h = cc
+
+begin-replaced : (x : List ℕ) (new : PlainTerm) (n : ℕ) (ts : PlainTerms) → begin_with_numbers n (terms ts) ≡ true → begin_with_numbers n (terms (replaced_in x new ts)) ≡ true
+begin-replaced x new zero ts h = refl
+begin-replaced x new (suc n) no_term h = h
+begin-replaced x new (suc n) (term t ts) h =
+    let r = and_parts (is_some (number_in t)) (begin_with_numbers n (terms ts)) h in
+    and_both (is_some (number_in (replaced x new t))) (begin_with_numbers n (terms (replaced_in x new ts))) (stays_number x new t r.0) (begin-replaced x new n ts r.1)
+
+-- a head may stand before the terms still
+head-replaced : (x : List ℕ) (new : PlainTerm) (f : PlainHead) (ts : PlainTerms) → is_spelled_head f (terms ts) ≡ true → is_spelled_head f (terms (replaced_in x new ts)) ≡ true
+head-replaced x new (op o) ts h =
+    let r = and_parts (takes o (length (terms ts))) (begin_with_numbers (numbers_first o) (terms ts)) h in
+    and_both (takes o (length (terms (replaced_in x new ts)))) (begin_with_numbers (numbers_first o) (terms (replaced_in x new ts)))
+    (ap (takes o) (length-replaced x new ts) ∙ r.0) (begin-replaced x new (numbers_first o) ts r.1)
+head-replaced x new (call g) ts h = h
+head-replaced x new (cast s) ts h =
+    let r = and_parts (length (terms ts) == 1) (is_spelled_sort s) h in
+    and_both (length (terms (replaced_in x new ts)) == 1) (is_spelled_sort s) (ap (λ n. n == 1) (length-replaced x new ts) ∙ r.0) r.1
+
 mutual
   replaced_spelled : (x : List ℕ) (new t : PlainTerm) → is_spelled_term new ≡ true → is_spelled_term t ≡ true → is_spelled_term (replaced x new t) ≡ true
   replaced_spelled x new (var y) h k = cond_spelled (same_name x y) new (var y) h k
   replaced_spelled x new (number n) h k = k
   replaced_spelled x new (truth b) h k = refl
   replaced_spelled x new (app f ts) h k =
-      let r = and_parts (is_spelled_head f (length (terms ts))) (are_spelled_terms ts) k in
-      and_both (is_spelled_head f (length (terms (replaced_in x new ts)))) (are_spelled_terms (replaced_in x new ts))
-      (ap (is_spelled_head f) (length-replaced x new ts) ∙ r.0) (replaced_in_spelled x new ts h r.1)
+      let r = and_parts (is_spelled_head f (terms ts)) (are_spelled_terms ts) k in
+      and_both (is_spelled_head f (terms (replaced_in x new ts))) (are_spelled_terms (replaced_in x new ts))
+      (head-replaced x new f ts r.0) (replaced_in_spelled x new ts h r.1)
   replaced_spelled x new (bind b y s t) h k =
       let r = and_parts (is_name y && is_spelled_term s) (is_spelled_term t) k in
       let q = and_parts (is_name y) (is_spelled_term s) r.0 in
@@ -144,20 +170,24 @@ emitted_spelled t p h e =
     let lo : ℤ = m.lo in
     let hi : ℤ = m.hi in
     let ends = are_ends lo hi m.ends in
-    let a = and_parts (list_all is_spelled_name t.inputs && is_spelled_term t.condition && is_spelled_name (t.output, t.sort)) (is_spelled_term t.relation) h in
-    let b = and_parts (list_all is_spelled_name t.inputs && is_spelled_term t.condition) (is_spelled_name (t.output, t.sort)) a.0 in
-    let c = and_parts (list_all is_spelled_name t.inputs) (is_spelled_term t.condition) b.0 in
-    let d = and_parts (is_name t.output) (is_spelled_sort t.sort) b.1 in
-    let test = replaced_spelled t.output (leaf t.sort) t.relation (leaf_spelled t.sort d.1) a.1 in
+    let defs = list_all is_spelled_definition t.signature.definitions in
+    let inputs = list_all is_spelled_name t.spec.inputs in
+    let output = is_spelled_name (t.spec.output, t.spec.sort) in
+    let a = and_parts (defs && inputs && is_spelled_term t.spec.condition && output) (is_spelled_term t.spec.relation) h in
+    let b = and_parts (defs && inputs && is_spelled_term t.spec.condition) output a.0 in
+    let c = and_parts (defs && inputs) (is_spelled_term t.spec.condition) b.0 in
+    let e = and_parts defs inputs c.0 in
+    let d = and_parts (is_name t.spec.output) (is_spelled_sort t.spec.sort) b.1 in
+    let test = replaced_spelled t.spec.output (leaf t.spec.sort) t.spec.relation (leaf_spelled t.spec.sort d.1) a.1 in
     ap is_spelled_program m.is
     ∙ spelled_whole (emitted t lo hi) (record {
-      definitions = refl;
-      inputs = c.0;
+      definitions = e.0;
+      inputs = e.1;
       condition = c.1;
       output = b.1;
       main = alone _ (alone _ (and_both (in_limits lo) (in_limits hi && true) ends.low (alone (in_limits hi) ends.high)));
       parameters =
           and_both (is_spelled_name (codes "low", ints lo (hi +ℤ pos 1))) _ (and_both (is_name (codes "low")) (is_spelled_sort (ints lo (hi +ℤ pos 1))) low_name ends.lows)
           (alone _ (and_both (is_name (codes "high")) (is_spelled_sort (ints (lo -ℤ pos 1) hi)) high_name ends.highs));
-      search = and_both (is_spelled_stmt (leaf_part t.sort (replaced t.output (leaf t.sort) t.relation))) _ (leaf_part-spelled t.sort (replaced t.output (leaf t.sort) t.relation) d.1 test) (alone (is_spelled_stmt kid_part) kid_spelled);
+      search = and_both (is_spelled_stmt (leaf_part t.spec.sort (replaced t.spec.output (leaf t.spec.sort) t.spec.relation))) _ (leaf_part-spelled t.spec.sort (replaced t.spec.output (leaf t.spec.sort) t.spec.relation) d.1 test) (alone (is_spelled_stmt kid_part) kid_spelled);
     })

@@ -7,6 +7,7 @@ use Rattle.kid_value.specs.PlainValue.{PlainValue}
 use Rattle.kid_value.proofs.SortLemmas.{and_parts}
 use Rattle.kid_term.specs.Eval.{Env}
 use Rattle.kid_outer.specs.Held.{Held}
+use Rattle.kid_kernel.specs.PlainTheory.{PlainTheory}
 use Rattle.kid_prog.specs.PlainProgram.{PlainProgram}
 use Rattle.kid_run.specs.Lines.{value_line, closing_line, fuel_line, outside_line, last_line, run_lines, input_lines, all_lines, run_text}
 use Rattle.kid_run.specs.Running.{Run, run_of}
@@ -14,12 +15,10 @@ use Rattle.kid_top.specs.declared.stop.Stop.{Stop}
 use Rattle.kid_top.specs.Answer.{is_inside}
 use Rattle.kid_top.specs.Emitted.{emitted}
 use Rattle.kid_top.specs.Ends.{Solved}
-use Rattle.kid_top.specs.Files.{theory_file}
-use Rattle.kid_top.specs.Outcome.{Work, runs, stage, inputs_stage, script_program, run_inputs, solve_theory, solve_work, is_whole, work_status, work_text}
+use Rattle.kid_top.specs.Outcome.{Work, runs, theory_stage, inputs_stage, script_program, run_inputs, solve_theory, solve_work, is_whole, work_status, work_text}
 use Rattle.kid_top.specs.Printed.{splits_in, Answers, Texts}
-use Rattle.kid_top.specs.Theory.{PlainTheory}
 use Rattle.kid_top.proofs.EmittedSearch.{Searchable, emitted-run, emitted-answer}
-use Rattle.kid_top.proofs.Outcomes.{bind_ok, same_ok, theory_stage_taken, script_searches}
+use Rattle.kid_top.proofs.Outcomes.{bind_ok, same_ok, stage_theory, script_searches}
 use Rattle.kid_top.proofs.Searches.{Searches}
 
 -- ---- lines
@@ -83,7 +82,7 @@ status-whole false h = cc
 -- the parts of the work of solving
 pub record Solves (files : Held) (theory script inputs : List ℕ) (fuel : ℕ) (w : Work) : Type 0 where
   pub of_theory : PlainTheory
-  pub theory_read : stage 1 theory_file (files theory) ≡ Ok of_theory
+  pub theory_read : theory_stage 1 (files theory) ≡ Ok of_theory
   pub program : PlainProgram
   pub derived : script_program of_theory (files script) ≡ Ok program
   pub of_inputs : List Env
@@ -92,7 +91,7 @@ pub record Solves (files : Held) (theory script inputs : List ℕ) (fuel : ℕ) 
 
 pub solve_parts : (files : Held) (theory script inputs : List ℕ) (fuel : ℕ) (w : Work) → solve_work files theory script inputs fuel ≡ Ok w → Solves files theory script inputs fuel w
 solve_parts files theory script inputs fuel w e =
-    let a = bind_ok (stage 1 theory_file (files theory)) (solve_theory files script inputs fuel) w e in
+    let a = bind_ok (theory_stage 1 (files theory)) (solve_theory files script inputs fuel) w e in
     let t : PlainTheory = a.0 in
     let b = bind_ok (script_program t (files script)) (λ (p : PlainProgram). run_inputs 3 p (files inputs) fuel) w a.2 in
     let p : PlainProgram = b.0 in
@@ -108,7 +107,7 @@ program_texts t p fuel xs s whole =
     let hi : ℤ = s.hi in
     subst (λ (q : PlainProgram). list_all (is_whole q fuel) xs ≡ true → Texts t q fuel xs (run_text q fuel xs)) (sym s.is) (texts t lo hi fuel xs s.can) whole
 
-searched_inputs : (t : PlainTheory) (p : PlainProgram) → Searches t p → p.inputs ≡ t.inputs
+searched_inputs : (t : PlainTheory) (p : PlainProgram) → Searches t p → p.inputs ≡ t.spec.inputs
 searched_inputs t p s = ap (λ (q : PlainProgram). q.inputs) s.is
 
 -- solving prints the answers for each input where the status is 0
@@ -119,7 +118,7 @@ solve_texts files theory script inputs fuel w old new e done printed =
     let t : PlainTheory = r.of_theory in
     let p : PlainProgram = r.program in
     let xs : List Env = r.of_inputs in
-    let s = script_searches t (files script) p (theory_stage_taken 1 (files theory) t r.theory_read) r.derived in
+    let s = script_searches t (files script) p (stage_theory 1 (files theory) t r.theory_read) r.derived in
     record {
       of_theory = t;
       theory_read = r.theory_read;

@@ -1,19 +1,20 @@
 -- What it takes for an outcome to be there.
 use Rattle.std.proofs.Common.{◌≡◌, ℕ, Bool, true, false, List, Option, Some, None, Result, Ok, Err, refl, sym, ap, ◌∙◌}
 use Rattle.std.specs.Prelude.{nat_le, length, if◌then◌else◌}
+use Rattle.kid_kernel.specs.PlainTheory.{PlainTheory}
+use Rattle.kid_theory.specs.IsTheory.{IsTheory}
+use Rattle.kid_theory.specs.Reading.{Read, theory_reading}
+use Rattle.kid_theory.proofs.Laws.{theories_read}
 use Rattle.kid_prog.specs.PlainProgram.{PlainProgram}
 use Rattle.kid_prog.specs.Laws.{program_text}
 use Rattle.kid_prog.specs.Loading.{Loaded, loading}
 use Rattle.kid_prog.proofs.Laws.{texts_back}
 use Rattle.kid_top.specs.declared.stop.Stop.{Stop}
 use Rattle.kid_top.specs.Emitted.{program_for}
-use Rattle.kid_top.specs.Files.{theory_file, script_file}
-use Rattle.kid_top.specs.Outcome.{◌>>=◌, read_or, read_file, stage, loads_or, emitted_or, script_program}
-use Rattle.kid_top.specs.Spelled.{is_spelled_theory}
-use Rattle.kid_top.specs.Theory.{PlainTheory}
+use Rattle.kid_top.specs.Files.{script_file}
+use Rattle.kid_top.specs.Outcome.{◌>>=◌, theory_or, theory_file, theory_stage, stage, loads_or, emitted_or, script_program}
 use Rattle.kid_top.proofs.EmittedSpelled.{emitted_spelled}
 use Rattle.kid_top.proofs.Searches.{Searches, program_searches}
-use Rattle.kid_top.proofs.Spellings.{IsTaken, theory_taken}
 
 pub bind_ok : {A B : Type 0} (r : Result A Stop) (f : A → Result B Stop) (z : B) → (r >>= f) ≡ Ok z → (x : A) × (r ≡ Ok x) × (f x ≡ Ok z)
 bind_ok (Err e) f z p = cc
@@ -23,23 +24,19 @@ bind_ok (Ok x) f z p = (x, refl, p)
 pub same_ok : {A : Type 0} (r : Result A Stop) (x y : A) → r ≡ Ok x → r ≡ Ok y → x ≡ y
 same_ok r x y p q = cc
 
--- ---- files
+-- ---- theories
 
-read_or_ok : {A : Type 0} (k : ℕ) (o : Option A) (x : A) → read_or k o ≡ Ok x → o ≡ Some x
-read_or_ok k None x e = cc
-read_or_ok k (Some y) x e = cc
+theory_or_ok : (r : Read PlainTheory) (t : PlainTheory) → theory_or r ≡ Ok t → r ≡ Ok t
+theory_or_ok (Ok u) t e = cc
+theory_or_ok (Err fault) t e = cc
 
-read_ok : {A : Type 0} (k : ℕ) (read : List ℕ → Option A) (bytes : List ℕ) (x : A) (fits : Bool) → read_file k read (if fits then Some bytes else None) ≡ Ok x → read bytes ≡ Some x
-read_ok k read bytes x true e = read_or_ok k (read bytes) x e
-read_ok k read bytes x false e = cc
+read_theory : (bytes : List ℕ) (t : PlainTheory) (fits : Bool) → theory_file (if fits then Some bytes else None) ≡ Ok t → IsTheory t
+read_theory bytes t true e = theories_read bytes t (theory_or_ok (theory_reading bytes) t e)
+read_theory bytes t false e = cc
 
-pub stage_ok : {A : Type 0} (k : ℕ) (read : List ℕ → Option A) (file : Option (List ℕ)) (x : A) → stage k read file ≡ Ok x
-    → (bytes : List ℕ) × (file ≡ Some bytes) × (read bytes ≡ Some x)
-stage_ok k read None x e = cc
-stage_ok k read (Some bytes) x e = (bytes, refl, read_ok k read bytes x (nat_le (length bytes) 4194304) e)
-
-pub theory_stage_taken : (k : ℕ) (file : Option (List ℕ)) (t : PlainTheory) → stage k theory_file file ≡ Ok t → IsTaken t
-theory_stage_taken k file t e = let r = stage_ok k theory_file file t e in theory_taken r.0 t r.2
+pub stage_theory : (k : ℕ) (file : Option (List ℕ)) (t : PlainTheory) → theory_stage k file ≡ Ok t → IsTheory t
+stage_theory k None t e = cc
+stage_theory k (Some bytes) t e = read_theory bytes t (nat_le (length bytes) 4194304) e
 
 -- ---- the program of a theory and the script
 
@@ -62,11 +59,11 @@ pub record Gives (t : PlainTheory) (q : PlainProgram) : Type 0 where
   pub emits : program_for t ≡ Some q
   pub loads : loading (program_text q) ≡ Ok q
 
-pub script_gives : (t : PlainTheory) (script : Option (List ℕ)) (q : PlainProgram) → is_spelled_theory t ≡ true → script_program t script ≡ Ok q → Gives t q
-script_gives t script q h e =
+pub script_gives : (t : PlainTheory) (script : Option (List ℕ)) (q : PlainProgram) → IsTheory t → script_program t script ≡ Ok q → Gives t q
+script_gives t script q is e =
     let a = script_program_ok t script q e in
-    let same = texts_back a.0 q (emitted_spelled t a.0 h a.1) a.2 in
+    let same = texts_back a.0 q (emitted_spelled t a.0 is.spelled a.1) a.2 in
     record { emits = a.1 ∙ ap (λ (p : PlainProgram). Some p) (sym same); loads = ap (λ (p : PlainProgram). loading (program_text p)) same ∙ a.2 }
 
-pub script_searches : (t : PlainTheory) (script : Option (List ℕ)) (q : PlainProgram) → IsTaken t → script_program t script ≡ Ok q → Searches t q
-script_searches t script q taken e = program_searches t q taken.proper (script_gives t script q taken.spelled e).emits
+pub script_searches : (t : PlainTheory) (script : Option (List ℕ)) (q : PlainProgram) → IsTheory t → script_program t script ≡ Ok q → Searches t q
+script_searches t script q is e = program_searches t q is (script_gives t script q is e).emits

@@ -7,7 +7,7 @@ use Rattle.kid_outer.specs.Causes.{Rose}
 use Rattle.kid_outer.specs.Written.{AppendsPrefix}
 use Rattle.kid_run.proofs.Fronts.{front_none}
 use Rattle.kid_top.specs.declared.stop.Stop.{Stop}
-use Rattle.kid_top.specs.declared.stop.Stop.TheVariants.{Memory, Usage, Failed, Program, Inputs, Unbuilt, Absent}
+use Rattle.kid_top.specs.declared.stop.Stop.TheVariants.{Memory, Usage, Failed, Theory, Program, Inputs, Unbuilt, Absent}
 use Rattle.kid_top.specs.Stops.{status_of}
 use Rattle.kid_top.specs.Command.{Command, derive, run, solve, command_of}
 use Rattle.kid_top.specs.Outcome.{Work, runs, saves, work_status, work_text, work_of, outcome_of, outcome, Refuses, Outcomes, is_whole}
@@ -52,6 +52,7 @@ late-refused words None why late = tt
 late-refused words (Some files) Memory late = tt
 late-refused words (Some files) Failed late = tt
 late-refused words (Some files) Usage late = absurd late
+late-refused words (Some files) (Theory fault) late = absurd late
 late-refused words (Some files) (Program fault) late = absurd late
 late-refused words (Some files) (Inputs form) late = absurd late
 late-refused words (Some files) (Unbuilt file) late = absurd late
@@ -61,6 +62,7 @@ pub late-loud : {X : Type 0} (why : Stop) → IsLateStop why → IsQuiet why →
 late-loud Memory late quiet = absurd quiet
 late-loud Failed late quiet = absurd quiet
 late-loud Usage late quiet = absurd late
+late-loud (Theory fault) late quiet = absurd late
 late-loud (Program fault) late quiet = absurd late
 late-loud (Inputs form) late quiet = absurd late
 late-loud (Unbuilt file) late quiet = absurd late
@@ -70,6 +72,7 @@ pub late-fits : (why : Stop) → IsLateStop why → why ≡ Usage → ⊥
 late-fits Memory late e = cc
 late-fits Failed late e = cc
 late-fits Usage late e = late
+late-fits (Theory fault) late e = late
 late-fits (Program fault) late e = late
 late-fits (Inputs form) late e = late
 late-fits (Unbuilt file) late e = late
@@ -140,6 +143,7 @@ pub late-begun : (why : Stop) → IsLateStop why → IsBegun (status_of why)
 late-begun Memory late = inr (inl refl)
 late-begun Failed late = inr (inr refl)
 late-begun Usage late = absurd late
+late-begun (Theory fault) late = absurd late
 late-begun (Program fault) late = absurd late
 late-begun (Inputs form) late = absurd late
 late-begun (Unbuilt file) late = absurd late

@@ -10,9 +10,9 @@ use Rattle.kid_value.specs.PlainSort.{PlainSort, ints}
 use Rattle.kid_value.specs.InSort.{in_sort}
 use Rattle.kid_value.specs.ValueSet.{is_member, AllAfter, Ascends}
 use Rattle.kid_term.specs.Eval.{Env}
-use Rattle.kid_top.specs.Theory.{PlainTheory}
+use Rattle.kid_kernel.specs.PlainTheory.{PlainTheory}
 use Rattle.kid_top.specs.Search.{range_search}
-use Rattle.kid_top.specs.Answer.{relates, relates_at, Answer}
+use Rattle.kid_top.specs.Answer.{theory_calls, relates, relates_at, Answer}
 use Rattle.kid_top.proofs.Ranges.{Within, range-within, is_in, is_in-below, is_in-above, range-exact}
 
 cmp-less : (z y : ℤ) → z <ℤ y → int_cmp z y ≡ Less
@@ -65,24 +65,24 @@ exact-int good lo hi z zs w inside true false e f = is_in-above z lo hi zs w (le
 exact-int good lo hi z zs w inside false b e f = is_in-below z lo hi zs w (le-false lo z e)
 
 range-answer : (t : PlainTheory) (x : Env) (lo hi : ℤ) → lo ≤ℤ hi
-    → (v : PlainValue) → is_member v (map int (range_search (relates_at x t.output t.relation) (lo, hi))) ≡ (in_sort (ints lo hi) v && relates t x v)
-range-answer t x lo hi le (bool b) = no_bool b (range_search (relates_at x t.output t.relation) (lo, hi))
-range-answer t x lo hi le (pair v w) = no_pair v w (range_search (relates_at x t.output t.relation) (lo, hi))
-range-answer t x lo hi le (set vs) = no_set vs (range_search (relates_at x t.output t.relation) (lo, hi))
-range-answer t x lo hi le (seq vs) = no_seq vs (range_search (relates_at x t.output t.relation) (lo, hi))
-range-answer t x lo hi le (map_of es) = no_map es (range_search (relates_at x t.output t.relation) (lo, hi))
+    → (v : PlainValue) → is_member v (map int (range_search (relates_at (theory_calls t) x t.spec.output t.spec.relation) (lo, hi))) ≡ (in_sort (ints lo hi) v && relates t x v)
+range-answer t x lo hi le (bool b) = no_bool b (range_search (relates_at (theory_calls t) x t.spec.output t.spec.relation) (lo, hi))
+range-answer t x lo hi le (pair v w) = no_pair v w (range_search (relates_at (theory_calls t) x t.spec.output t.spec.relation) (lo, hi))
+range-answer t x lo hi le (set vs) = no_set vs (range_search (relates_at (theory_calls t) x t.spec.output t.spec.relation) (lo, hi))
+range-answer t x lo hi le (seq vs) = no_seq vs (range_search (relates_at (theory_calls t) x t.spec.output t.spec.relation) (lo, hi))
+range-answer t x lo hi le (map_of es) = no_map es (range_search (relates_at (theory_calls t) x t.spec.output t.spec.relation) (lo, hi))
 range-answer t x lo hi le (int z) =
-    member-int z (range_search (relates_at x t.output t.relation) (lo, hi))
-    ∙ exact-int (relates_at x t.output t.relation) lo hi z (range_search (relates_at x t.output t.relation) (lo, hi))
-    (range-within (relates_at x t.output t.relation) (suc (int_gap lo hi)) lo hi le)
-    (λ low high. range-exact (relates_at x t.output t.relation) (suc (int_gap lo hi)) lo hi z (omega arith) low high)
+    member-int z (range_search (relates_at (theory_calls t) x t.spec.output t.spec.relation) (lo, hi))
+    ∙ exact-int (relates_at (theory_calls t) x t.spec.output t.spec.relation) lo hi z (range_search (relates_at (theory_calls t) x t.spec.output t.spec.relation) (lo, hi))
+    (range-within (relates_at (theory_calls t) x t.spec.output t.spec.relation) (suc (int_gap lo hi)) lo hi le)
+    (λ low high. range-exact (relates_at (theory_calls t) x t.spec.output t.spec.relation) (suc (int_gap lo hi)) lo hi z (omega arith) low high)
     (int_le lo z) (int_le z hi) refl refl
 
 -- for a theory whose output is an integer from lo to hi
-pub range-answers : (t : PlainTheory) (x : Env) (lo hi : ℤ) → t.sort ≡ ints lo hi → lo ≤ℤ hi → Answer t x (map int (range_search (relates_at x t.output t.relation) (lo, hi)))
+pub range-answers : (t : PlainTheory) (x : Env) (lo hi : ℤ) → t.spec.sort ≡ ints lo hi → lo ≤ℤ hi → Answer t x (map int (range_search (relates_at (theory_calls t) x t.spec.output t.spec.relation) (lo, hi)))
 range-answers t x lo hi is le =
-    let zs = range_search (relates_at x t.output t.relation) (lo, hi) in
+    let zs = range_search (relates_at (theory_calls t) x t.spec.output t.spec.relation) (lo, hi) in
     record {
-      ascends = ascending lo hi zs (range-within (relates_at x t.output t.relation) (suc (int_gap lo hi)) lo hi le);
+      ascends = ascending lo hi zs (range-within (relates_at (theory_calls t) x t.spec.output t.spec.relation) (suc (int_gap lo hi)) lo hi le);
       exact = λ v. subst (λ (s : PlainSort). is_member v (map int zs) ≡ (in_sort s v && relates t x v)) (sym is) (range-answer t x lo hi le v);
     }

@@ -5,6 +5,7 @@ use Rattle.kid_value.specs.PlainSort.{PlainSort, sets}
 use Rattle.kid_term.specs.PlainTerm.{PlainTerm, var, number, truth, app, bind, PlainTerms, no_term, term}
 use Rattle.kid_term.specs.Names.{same_name, Names, is_named, PlainDef}
 use Rattle.kid_term.specs.Sorted.{◌>>=◌}
+use Rattle.kid_term.specs.Written.{written}
 use Rattle.kid_term.specs.Sorting.{sort_at, head_sort, least_sort, least_sorts}
 use Rattle.kid_term.specs.Eval.{Env, Calls, value_at, eval}
 use Rattle.kid_term.specs.Substitution.{mentions, some_mentions}
@@ -37,7 +38,7 @@ mutual
   mentions-named (number n) known names s p y m = cc
   mentions-named (truth b) known names s p y m = cc
   mentions-named (app g ts) known names s p y m =
-      let r = bind_ok (least_sorts known names ts) (head_sort known g) s p in some_mentions-named ts known names r.0 r.1 y m
+      let r = bind_ok (least_sorts known names ts) (head_sort known g (written ts)) s p in some_mentions-named ts known names r.0 r.1 y m
   mentions-named (bind b x u t) known names s p y m =
       let r = binder_ok known names b x u t s p in
       under (mentions y u) (same_name y x) (mentions y t) (is_named y names) m

@@ -1,26 +1,18 @@
 -- One stage after another.
-use Rattle.std.proofs.Common.{◌≡◌, ◌≤◌, ℕ, true, List, Option, Some, None, option_map, Result, Ok, Err, IfOk, sym, ap, ◌∙◌, subst, arith, inl, inr, ⊎_elim}
+use Rattle.std.proofs.Common.{◌≡◌, ◌≤◌, ℕ, List, Option, Some, None, option_map, Result, Ok, sym, ap, ◌∙◌, subst, arith, inl, inr, ⊎_elim}
 use Rattle.std.specs.Global.{Vec}
 use Rattle.kid_outer.specs.Causes.{Rose, NeverFall}
 use Rattle.kid_outer.specs.Held.{Held}
+use Rattle.kid_kernel.specs.PlainTheory.{PlainTheory, plain_theory}
+use Rattle.kid_kernel.specs.declared.theory.Theory.{Theory}
+use Rattle.kid_theory.specs.Reading.{theory_reading}
 use Rattle.kid_prog.specs.ProgramView.{plain_program}
 use Rattle.kid_prog.specs.declared.program.Program.{Program}
-use Rattle.kid_top.specs.declared.refusal.Refusal.{Refusal}
 use Rattle.kid_top.specs.declared.stop.Stop.{Stop}
-use Rattle.kid_top.specs.declared.theory.Theory.{Theory}
-use Rattle.kid_top.specs.Refusal.{Gives}
-use Rattle.kid_top.specs.Theory.{PlainTheory, plain_theory}
-use Rattle.kid_top.specs.Spelled.{is_spelled_theory}
 use Rattle.kid_top.specs.Emitted.{program_for}
-use Rattle.kid_top.specs.Files.{theory_file, script_file}
-use Rattle.kid_top.specs.Outcome.{Comes, Outcomes, load_stage, read_or, read_file, stage, emitted_or, script_program, ◌>>=◌}
+use Rattle.kid_top.specs.Files.{script_file}
+use Rattle.kid_top.specs.Outcome.{Comes, Outcomes, load_stage, theory_or, theory_file, theory_stage, stage, emitted_or, script_program, ◌>>=◌}
 use Rattle.kid_top.specs.Risen.{Counts, TheoryRose, SolveRose, DeriveRose}
-use Rattle.kid_top.proofs.Spellings.{theory_spelled}
-
--- a theory that was read has a spelling
-pub read_theories : (r : Result Theory Refusal) (bytes : List ℕ) → Gives plain_theory r (theory_file bytes) → IfOk r (λ t. is_spelled_theory (plain_theory t) ≡ true)
-read_theories (Ok t) bytes e = (theory_spelled bytes (plain_theory t) e).1
-read_theories (Err why) bytes e = tt
 
 -- the script was read, and then this came of the theory
 pub after_script : (h : Option Held) (t : PlainTheory) (script : List ℕ) (u : Unit {0}) (r : Result Program Stop)
@@ -30,15 +22,18 @@ after_script None t script u r first rest = tt
 after_script (Some files) t script u r first rest =
     subst (λ (o : Result (Unit {0}) Stop). Comes plain_program r (o >>= λ v. emitted_or (program_for t))) (sym first) rest
 
--- a file was read, and this is what it spells
-pub stage_taken : {X Y : Type 0} (h : Option Held) (k : ℕ) (read : List ℕ → Option Y) (view : X → Y) (name text : List ℕ) (bytes : Vec ℕ) (o : Option (Vec ℕ)) (x : X)
+-- the theory's file was read, and this came of its bytes
+pub after_load : (h : Option Held) (k : ℕ) (name text : List ℕ) (bytes : Vec ℕ) (o : Option (Vec ℕ)) (r : Result Theory Stop)
     → Outcomes {X = Option (Vec ℕ)} {Y = Option (List ℕ)} h (option_map (λ b. b.items)) (Ok o) (λ files. load_stage k (files name))
-    → o ≡ Some bytes → text ≡ bytes.items → read text ≡ Some (view x) → Outcomes h view (Ok x) (λ files. stage k read (files name))
-stage_taken None k read view name text bytes o x first is same spelled = tt
-stage_taken {X} {Y} (Some files) k read view name text bytes o x first is same spelled =
-    ap (λ (r : Result (Option (List ℕ)) Stop). r >>= read_file k read) first
-    ∙ ap (λ (p : Option (Vec ℕ)). read_file k read (option_map (λ b. b.items) p)) is
-    ∙ ap (λ (t : List ℕ). read_or k (read t)) (sym same) ∙ ap (λ (y : Option Y). read_or k y) spelled
+    → o ≡ Some bytes → text ≡ bytes.items → Comes plain_theory r (theory_or (theory_reading text)) → Outcomes h plain_theory r (λ files. theory_stage k (files name))
+after_load None k name text bytes o r first is same comes = tt
+after_load (Some files) k name text bytes o r first is same comes =
+    subst (λ (there : Result PlainTheory Stop). Comes plain_theory r there)
+    (sym
+    (ap (λ (there : Result (Option (List ℕ)) Stop). there >>= theory_file) first
+    ∙ ap (λ (p : Option (Vec ℕ)). theory_file (option_map (λ b. b.items) p)) is
+    ∙ ap (λ (t : List ℕ). theory_or (theory_reading t)) (sym same)))
+    comes
 
 -- one stage gave this, and then that came of the next
 pub after_stage : {X Y Z W : Type 0} (h : Option Held) (view : X → Y) (x : X) (later : Z → W) (r : Result Z Stop) (first : Held → Result Y Stop) (rest : Held → Y → Result W Stop)
@@ -52,14 +47,14 @@ rose_later : (a b c : ℕ) → a ≤ b → Rose b c → Rose a c
 rose_later a b c le rose = omega (arith, le, rose)
 
 pub derive_rose : (h : Option Held) (before mid now : Counts) (theory script : List ℕ) (t : Theory) → NeverFall before mid
-    → Outcomes {X = Theory} {Y = PlainTheory} h plain_theory (Ok t) (λ files. stage 1 theory_file (files theory)) → Rose (mid script) (now script)
+    → Outcomes {X = Theory} {Y = PlainTheory} h plain_theory (Ok t) (λ files. theory_stage 1 (files theory)) → Rose (mid script) (now script)
     → DeriveRose h before now theory script
 derive_rose None before mid now theory script t never read rose = inr (rose_later (before script) (mid script) (now script) (never script) rose)
 derive_rose (Some files) before mid now theory script t never read rose =
     inr (plain_theory t, read, rose_later (before script) (mid script) (now script) (never script) rose)
 
 pub solve_rose : (h : Option Held) (before mid now : Counts) (theory script inputs : List ℕ) (t : Theory) → NeverFall before mid
-    → Outcomes {X = Theory} {Y = PlainTheory} h plain_theory (Ok t) (λ files. stage 1 theory_file (files theory)) → TheoryRose h mid now (plain_theory t) script inputs
+    → Outcomes {X = Theory} {Y = PlainTheory} h plain_theory (Ok t) (λ files. theory_stage 1 (files theory)) → TheoryRose h mid now (plain_theory t) script inputs
     → SolveRose h before now theory script inputs
 solve_rose None before mid now theory script inputs t never read rose =
     inr (⊎_elim (λ r. inl (rose_later (before script) (mid script) (now script) (never script) r)) (λ r. inr (rose_later (before inputs) (mid inputs) (now inputs) (never inputs) r)) rose)

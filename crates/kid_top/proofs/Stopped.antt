@@ -2,7 +2,7 @@
 use Rattle.std.proofs.Common.{◌≡◌, ◌≢◌, ℕ, List, ◌++◌, Option, Some, None, option_map, refl, sym, ap, ◌∙◌, inl, inr, ◌⊎◌, ⊎_elim, arith}
 use Rattle.kid_outer.specs.Held.{Held}
 use Rattle.kid_top.specs.declared.stop.Stop.{Stop}
-use Rattle.kid_top.specs.declared.stop.Stop.TheVariants.{Memory, Usage, Failed, Program, Inputs, Unbuilt, Absent}
+use Rattle.kid_top.specs.declared.stop.Stop.TheVariants.{Memory, Usage, Failed, Theory, Program, Inputs, Unbuilt, Absent}
 use Rattle.kid_top.specs.Stops.{status_of, stop_text, Complains}
 use Rattle.kid_top.specs.Command.{Command, derive, run, solve}
 use Rattle.kid_top.specs.Ends.{DoesHeld, EndsHeld, IsRefusedBy, IsQuiet, Says, ending, DeriveKeeps, KeepsFiles}
@@ -15,6 +15,7 @@ not_zero : (why : Stop) → status_of why ≡ 0 → ⊥
 not_zero Memory e = cc
 not_zero Usage e = cc
 not_zero Failed e = cc
+not_zero (Theory fault) e = cc
 not_zero (Program fault) e = cc
 not_zero (Inputs form) e = cc
 not_zero (Unbuilt file) e = cc
@@ -24,6 +25,7 @@ not_four : (why : Stop) → status_of why ≡ 4 → ⊥
 not_four Memory e = cc
 not_four Usage e = cc
 not_four Failed e = cc
+not_four (Theory fault) e = cc
 not_four (Program fault) e = cc
 not_four (Inputs form) e = cc
 not_four (Unbuilt file) e = cc
@@ -52,6 +54,7 @@ usage_of : (why : Stop) → status_of why ≡ 2 → why ≡ Usage
 usage_of Memory e = cc
 usage_of Usage e = refl
 usage_of Failed e = cc
+usage_of (Theory fault) e = cc
 usage_of (Program fault) e = cc
 usage_of (Inputs form) e = cc
 usage_of (Unbuilt file) e = cc
@@ -64,6 +67,7 @@ failed_of : (why : Stop) → status_of why ≡ 3 → why ≡ Failed
 failed_of Memory e = cc
 failed_of Usage e = cc
 failed_of Failed e = refl
+failed_of (Theory fault) e = cc
 failed_of (Program fault) e = cc
 failed_of (Inputs form) e = cc
 failed_of (Unbuilt file) e = cc
@@ -76,6 +80,7 @@ pub told-quiet : (why : Stop) (status : ℕ) → Told why status → status ≢ 
 told-quiet Memory status t one three = absurd (⊎_elim one one t)
 told-quiet Usage status t one three = tt
 told-quiet Failed status t one three = absurd (⊎_elim three one t)
+told-quiet (Theory fault) status t one three = tt
 told-quiet (Program fault) status t one three = tt
 told-quiet (Inputs form) status t one three = tt
 told-quiet (Unbuilt file) status t one three = tt
@@ -87,6 +92,7 @@ ends-held words None why status refused t = tt
 ends-held words (Some files) Memory status refused t = inr (inl (⊎_elim (λ s. s) (λ s. s) t))
 ends-held words (Some files) Failed status refused t = inr (⊎_elim (λ s. inr s) (λ s. inl s) t)
 ends-held words (Some files) Usage status refused t = ⊎_elim (λ s. inl (s ∙ sym (ap ending refused))) (λ s. inr (inl s)) t
+ends-held words (Some files) (Theory fault) status refused t = ⊎_elim (λ s. inl (s ∙ sym (ap ending refused))) (λ s. inr (inl s)) t
 ends-held words (Some files) (Program fault) status refused t = ⊎_elim (λ s. inl (s ∙ sym (ap ending refused))) (λ s. inr (inl s)) t
 ends-held words (Some files) (Inputs form) status refused t = ⊎_elim (λ s. inl (s ∙ sym (ap ending refused))) (λ s. inr (inl s)) t
 ends-held words (Some files) (Unbuilt file) status refused t = ⊎_elim (λ s. inl (s ∙ sym (ap ending refused))) (λ s. inr (inl s)) t
@@ -112,6 +118,7 @@ says words h why status old new refused (inl q) = (
     memory_of Memory e = refl
     memory_of Usage e = cc
     memory_of Failed e = cc
+    memory_of (Theory fault) e = cc
     memory_of (Program fault) e = cc
     memory_of (Inputs form) e = cc
     memory_of (Unbuilt file) e = cc

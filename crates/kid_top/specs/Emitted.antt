@@ -3,14 +3,15 @@ use Rattle.std.specs.Prelude.{ℤ, pos, neg_ℤ, ◌+ℤ◌, ◌-ℤ◌, int_lt,
 use Rattle.kid_value.specs.PlainSort.{PlainSort, ints}
 use Rattle.kid_term.specs.PlainTerm.{PlainTerm, var, number, truth, app, op, cast, no_term, term}
 use Rattle.kid_term.specs.Names.{is_named}
+use Rattle.kid_term.specs.PlainSpec.{relation_scope}
 use Rattle.kid_term.specs.Substitution.{replaced, captures}
 use Rattle.kid_term.specs.declared.operator.Op.TheVariants.{Logic, Number}
 use Rattle.kid_term.specs.declared.operator.LogicOp.TheVariants.{Eq}
 use Rattle.kid_term.specs.declared.operator.NumberOp.{NumberOp}
 use Rattle.kid_term.specs.declared.operator.NumberOp.TheVariants.{Lt, Add, Div}
+use Rattle.kid_kernel.specs.PlainTheory.{PlainTheory}
 use Rattle.kid_prog.specs.PlainStmt.{PlainStmt, when, emit, call, PlainStmts, no_stmt, stmt}
 use Rattle.kid_prog.specs.PlainProgram.{PlainProgram}
-use Rattle.kid_top.specs.Theory.{PlainTheory, scope_of}
 
 -- the lower and the upper end of what is left to search
 abbrev pub low : PlainTerm
@@ -50,27 +51,27 @@ kid_part = when (number_pair Lt low high) (stmt (open_call low middle) (single (
 -- the program that searches from lo to hi, with this test where one integer is left
 abbrev pub emitted_with : PlainTheory → PlainTerm → ℤ → ℤ → PlainProgram
 emitted_with t test lo hi = record {
-  definitions = [];
-  inputs = t.inputs;
-  condition = t.condition;
-  output = t.output;
-  sort = t.sort;
+  definitions = t.signature.definitions;
+  inputs = t.spec.inputs;
+  condition = t.spec.condition;
+  output = t.spec.output;
+  sort = t.spec.sort;
   main = single (open_call (number lo) (number hi));
   parameters = (codes "low", ints lo (hi +ℤ pos 1)) ∷ (codes "high", ints (lo -ℤ pos 1) hi) ∷ [];
-  search = stmt (leaf_part t.sort test) (single kid_part);
+  search = stmt (leaf_part t.spec.sort test) (single kid_part);
 }
 
 -- the test is the relation with the leaf in the output's place
 abbrev pub emitted : PlainTheory → ℤ → ℤ → PlainProgram
-emitted t lo hi = emitted_with t (replaced t.output (leaf t.sort) t.relation) lo hi
+emitted t lo hi = emitted_with t (replaced t.spec.output (leaf t.spec.sort) t.spec.relation) lo hi
 
--- whether the theory has none of the search's own names
+-- whether no input and not the output has one of the search's own names
 abbrev pub is_apart : PlainTheory → Bool
-is_apart t = not (is_named (codes "low") (scope_of t)) && not (is_named (codes "high") (scope_of t))
+is_apart t = not (is_named (codes "low") (relation_scope t.spec)) && not (is_named (codes "high") (relation_scope t.spec))
 
 -- whether the leaf may stand in the relation in the output's place
 abbrev pub takes_leaf : PlainTheory → Bool
-takes_leaf t = not (captures t.output (leaf t.sort) t.relation)
+takes_leaf t = not (captures t.spec.output (leaf t.spec.sort) t.spec.relation)
 
 -- whether the ends of the search lie within the limits of integers
 abbrev pub has_ends : ℤ → ℤ → Bool
@@ -85,4 +86,4 @@ program_at t (ints lo hi) = if has_ends lo hi && is_apart t then if_takes_leaf t
 program_at t s = None
 
 abbrev pub program_for : PlainTheory → Option PlainProgram
-program_for t = program_at t t.sort
+program_for t = program_at t t.spec.sort

@@ -4,16 +4,15 @@ use Rattle.kid_outer.specs.Causes.{Rose}
 use Rattle.kid_outer.specs.Held.{Held}
 use Rattle.kid_outer.specs.Written.{AppendsPrefix}
 use Rattle.kid_term.specs.Eval.{Env}
+use Rattle.kid_kernel.specs.PlainTheory.{PlainTheory}
 use Rattle.kid_prog.specs.Laws.{program_text}
 use Rattle.kid_prog.specs.PlainProgram.{PlainProgram}
 use Rattle.kid_top.specs.declared.stop.Stop.{Stop}
 use Rattle.kid_top.specs.declared.stop.Stop.TheVariants as stop
 use Rattle.kid_top.specs.Stops.{status_of, stop_text}
-use Rattle.kid_top.specs.Theory.{PlainTheory}
-use Rattle.kid_top.specs.Files.{theory_file}
 use Rattle.kid_top.specs.Derivation.{derivation_text}
 use Rattle.kid_top.specs.Command.{Command, derive, solve, command_of}
-use Rattle.kid_top.specs.Outcome.{Work, saves, work_status, work_text, stage, inputs_stage, script_program, run_work, solve_work, derive_work, work_of, outcome, Refuses}
+use Rattle.kid_top.specs.Outcome.{Work, saves, work_status, work_text, theory_stage, inputs_stage, script_program, run_work, solve_work, derive_work, work_of, outcome, Refuses}
 use Rattle.kid_top.specs.Printed.{Texts, Implements}
 use Rattle.kid_top.specs.Risen.{Counts, WorkRose}
 
@@ -34,11 +33,11 @@ DoesHeld words (Some files) status old new = Does (outcome words files) status o
 -- The theory and the inputs are those of the files, and what was put is a text of the answers for each input, and nothing else.
 pub record Solved (files : Held) (theory script inputs : List ℕ) (fuel : ℕ) (old new : Option (List ℕ)) : Type 0 where
   pub of_theory : PlainTheory
-  pub theory_read : stage 1 theory_file (files theory) ≡ Ok of_theory
+  pub theory_read : theory_stage 1 (files theory) ≡ Ok of_theory
   pub program : PlainProgram
   pub derived : script_program of_theory (files script) ≡ Ok program
   pub of_inputs : List Env
-  pub inputs_read : inputs_stage 3 of_theory.inputs (files inputs) ≡ Ok of_inputs
+  pub inputs_read : inputs_stage 3 of_theory.spec.inputs (files inputs) ≡ Ok of_inputs
   pub text : List ℕ
   pub answers : Texts of_theory program fuel of_inputs text
   pub printed : new ≡ option_map (λ w. w ++ text) old
@@ -50,7 +49,7 @@ SolvesHeld command files old new = ⊤
 -- The two names hold the texts of the derivation and of a program that solves the theory.
 pub record Derived (files after : Held) (theory script derivation program : List ℕ) : Type 0 where
   pub of_theory : PlainTheory
-  pub theory_read : stage 1 theory_file (files theory) ≡ Ok of_theory
+  pub theory_read : theory_stage 1 (files theory) ≡ Ok of_theory
   pub of_program : PlainProgram
   pub derived : script_program of_theory (files script) ≡ Ok of_program
   pub implements : Implements of_theory of_program

@@ -4,10 +4,10 @@ use Rattle.std.specs.List.{flat_map}
 use Rattle.kid_value.specs.PlainSort.{PlainSort, ints}
 use Rattle.kid_value.specs.PlainValue.{PlainValue}
 use Rattle.kid_term.specs.Eval.{Env}
+use Rattle.kid_kernel.specs.PlainTheory.{PlainTheory}
 use Rattle.kid_prog.specs.PlainProgram.{PlainProgram}
 use Rattle.kid_run.specs.Lines.{value_line, closing_line, outside_line}
 use Rattle.kid_run.specs.Running.{run_of}
-use Rattle.kid_top.specs.Theory.{PlainTheory}
 use Rattle.kid_top.specs.Answer.{Answer, is_inside}
 use Rattle.kid_top.specs.Search.{range_count}
 
@@ -21,7 +21,7 @@ pub record Answers (t : PlainTheory) (p : PlainProgram) (fuel : ℕ) (x : Env) (
   pub answers : List PlainValue
   pub exact : Answer t x answers
   pub lines : text ≡ flat_map value_line answers ++ closing_line (length answers) (run_of p x fuel).calls
-  pub counted : (run_of p x fuel).calls ≡ splits_in t.sort
+  pub counted : (run_of p x fuel).calls ≡ splits_in t.spec.sort
 
 -- the text for one input: its answers where the input condition is true, and one line where it is not
 abbrev pub InputText : PlainTheory → PlainProgram → ℕ → Env → List ℕ → Type 0

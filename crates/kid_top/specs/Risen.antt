@@ -2,11 +2,10 @@
 use Rattle.std.specs.Prelude.{◌≡◌, ℕ, List, Option, Some, None, Ok, ◌⊎◌}
 use Rattle.kid_outer.specs.Causes.{Rose}
 use Rattle.kid_outer.specs.Held.{Held}
+use Rattle.kid_kernel.specs.PlainTheory.{PlainTheory}
 use Rattle.kid_prog.specs.PlainProgram.{PlainProgram}
-use Rattle.kid_top.specs.Theory.{PlainTheory}
-use Rattle.kid_top.specs.Files.{theory_file}
 use Rattle.kid_top.specs.Command.{Command, derive, run, solve}
-use Rattle.kid_top.specs.Outcome.{stage, program_stage, script_program}
+use Rattle.kid_top.specs.Outcome.{theory_stage, program_stage, script_program}
 
 -- counts of faults of names, before a call and after it
 abbrev pub Counts : Type 0
@@ -30,12 +29,12 @@ SolveRose None before now theory script inputs =
     Rose (before theory) (now theory) ⊎ (Rose (before script) (now script) ⊎ Rose (before inputs) (now inputs))
 SolveRose (Some files) before now theory script inputs =
     Rose (before theory) (now theory)
-    ⊎ ((t : PlainTheory) × (stage 1 theory_file (files theory) ≡ Ok t) × TheoryRose (Some files) before now t script inputs)
+    ⊎ ((t : PlainTheory) × (theory_stage 1 (files theory) ≡ Ok t) × TheoryRose (Some files) before now t script inputs)
 
 abbrev pub DeriveRose : Option Held → Counts → Counts → List ℕ → List ℕ → Type 0
 DeriveRose None before now theory script = Rose (before theory) (now theory) ⊎ Rose (before script) (now script)
 DeriveRose (Some files) before now theory script =
-    Rose (before theory) (now theory) ⊎ ((t : PlainTheory) × (stage 1 theory_file (files theory) ≡ Ok t) × Rose (before script) (now script))
+    Rose (before theory) (now theory) ⊎ ((t : PlainTheory) × (theory_stage 1 (files theory) ≡ Ok t) × Rose (before script) (now script))
 
 abbrev pub WorkRose : Command → Option Held → Counts → Counts → Type 0
 WorkRose (derive theory script derivation program) files before now = DeriveRose files before now theory script

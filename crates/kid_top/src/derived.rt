@@ -1,21 +1,21 @@
 //! The program that a theory and the script give.
 ghost use Rattle.std.specs.Prelude.{◌≡◌, true, IfOk, IsErrOf};
 ghost use Rattle.kid_outer.specs.Causes.{NeverFall, Rose};
+ghost use Rattle.kid_kernel.specs.PlainTheory.{plain_theory};
+ghost use Rattle.kid_theory.specs.IsTheory.{IsTheory};
 ghost use Rattle.kid_prog.specs.Laws.{program_text};
 ghost use Rattle.kid_prog.specs.Loading.{loading};
 ghost use Rattle.kid_prog.specs.ProgramView.{plain_program};
 ghost use Rattle.kid_prog.specs.Rules.{IsRunnable};
 ghost use Rattle.kid_prog.specs.Spelling.{is_spelled_program};
-ghost use Rattle.kid_top.specs.Theory.{plain_theory};
 ghost use Rattle.kid_top.specs.Emitted.{program_for};
-ghost use Rattle.kid_top.specs.Spelled.{is_spelled_theory};
 ghost use Rattle.kid_top.specs.Outcome.{Comes, Outcomes, loads_or, emitted_or, script_program};
 
 use crate::emit::program_for;
 use crate::refusal::Refusal;
 use crate::stages::script_stage;
 use crate::stop::Stop;
-use crate::theory::Theory;
+use kid_kernel::Theory;
 use kid_outer::Store;
 use kid_prog::{LoadCode, LoadFault, Program, load, text};
 use kid_value::Memory;
@@ -46,7 +46,7 @@ fn reloaded(alloc: Global, program: &Program) -> Result<Program, Stop>
 }
 
 fn emitted_program(alloc: Global, theory: &Theory) -> Result<Program, Stop>
-    requires { is_spelled_theory (plain_theory theory.now) ≡ true }
+    requires { IsTheory (plain_theory theory.now) }
     ensures comes { Comes plain_program result (emitted_or (program_for (plain_theory theory.now))) }
     ensures runnable { IfOk result (λ p. IsRunnable (plain_program p)) }
     ensures spelled { IfOk result (λ p. is_spelled_program (plain_program p) ≡ true) }
@@ -67,7 +67,7 @@ pub fn script_program<S: Store>(
     theory: &Theory,
     script: &str,
 ) -> Result<Program, Stop>
-    requires { is_spelled_theory (plain_theory theory.now) ≡ true }
+    requires { IsTheory (plain_theory theory.now) }
     ensures outcome { Outcomes (S.held store.old) plain_program result (λ files. script_program (plain_theory theory.now) (files script.now)) }
     ensures runnable { IfOk result (λ p. IsRunnable (plain_program p)) }
     ensures spelled { IfOk result (λ p. is_spelled_program (plain_program p) ≡ true) }

@@ -4,17 +4,17 @@ ghost use Rattle.kid_value.specs.PlainSort.{ints};
 ghost use Rattle.kid_value.specs.SortView.{plain_sort};
 ghost use Rattle.kid_term.specs.PlainTerm.{var, number as number_term, app, op, term, no_term};
 ghost use Rattle.kid_term.specs.TermView.{plain_term};
+ghost use Rattle.kid_kernel.specs.PlainTheory.{plain_theory};
 ghost use Rattle.kid_prog.specs.StmtView.{plain_stmt};
 ghost use Rattle.kid_prog.specs.ProgramView.{plain_program};
 ghost use Rattle.kid_top.specs.Refusal.{Gives};
-ghost use Rattle.kid_top.specs.Theory.{plain_theory};
 ghost use Rattle.kid_top.specs.Emitted.{low, high, number_pair, equal_ends, middle, leaf, open_call, leaf_part, kid_part, emitted_with, is_apart, has_ends, if_takes_leaf, program_for};
 
-use crate::proper::{is_named, scope};
 use crate::refusal::Refusal;
-use crate::theory::Theory;
+use kid_kernel::Theory;
 use kid_prog::{Program, Stmt, Stmts};
 use kid_sorting::Signature;
+use kid_sorting::names::{copied, is_new, with_name};
 use kid_term::substitute::SubstFault;
 use kid_term::{Head, Literal, LogicOp, NumberOp, Op, Term, Terms};
 use kid_value::{LIMIT, Memory, Names, Sort, Text};
@@ -141,14 +141,13 @@ fn parameters(alloc: Global, lo: i64, hi: i64) -> Result<Names, Memory>
     Ok(names)
 }
 
-fn signature(alloc: Global, inputs: &Names) -> Result<Signature, Memory>
-    ensures { IfOk result (λ s. s ≡ record { definitions = []; inputs = inputs.now }) }
+/// The definitions and the inputs of a theory.
+fn signature(alloc: Global, theory: &Theory) -> Result<Signature, Memory>
+    ensures { IfOk result (λ s. s ≡ record { definitions = theory.now.signature.definitions; inputs = theory.now.spec.inputs }) }
 {
-    let mut signature = Signature::new(alloc);
-    for input in inputs.items() {
-        signature.add_input(input.0.copy(alloc)?, input.1.copy(alloc)?)?;
-    }
-    Ok(signature)
+    let definitions = theory.signature.defs().copy(alloc)?;
+    let inputs = copied(alloc, &theory.spec.inputs)?;
+    Ok(Signature::from_parts(definitions, inputs))
 }
 
 /// The program that searches from `lo` to `hi` with this test for one integer.
@@ -157,13 +156,13 @@ fn emitted(alloc: Global, theory: &Theory, test: Term, lo: i64, hi: i64) -> Resu
     ensures { IfOk result (λ p. plain_program p ≡ emitted_with (plain_theory theory.now) (plain_term test) lo hi) }
 {
     let mut search = Stmts::new(alloc);
-    search.push(leaf_part(alloc, &theory.sort, test)?)?;
+    search.push(leaf_part(alloc, &theory.spec.sort, test)?)?;
     search.push(kid_part(alloc)?)?;
     Ok(Program {
-        signature: signature(alloc, &theory.inputs)?,
-        condition: theory.condition.copy(alloc)?,
-        output: theory.output.copy(alloc)?,
-        sort: theory.sort.copy(alloc)?,
+        signature: signature(alloc, theory)?,
+        condition: theory.spec.condition.copy(alloc)?,
+        output: theory.spec.output.copy(alloc)?,
+        sort: theory.spec.sort.copy(alloc)?,
         main: single(alloc, open_call(alloc, number(lo), number(hi))?)?,
         parameters: parameters(alloc, lo, hi)?,
         search,
@@ -176,14 +175,15 @@ fn has_ends(lo: i64, hi: i64) -> bool
     -LIMIT < lo && lo <= hi && hi < LIMIT
 }
 
-/// Whether the theory has none of the search's own names.
+/// Whether no input and not the output has one of the search's own names.
 fn is_apart(alloc: Global, theory: &Theory) -> Result<bool, Refusal>
     ensures { Gives (λ b. b) result (Some (is_apart (plain_theory theory.now))) }
 {
-    let scope = scope(alloc, theory)?;
+    let spec = &theory.spec;
+    let scope = with_name(alloc, &spec.inputs, &spec.output, &spec.sort)?;
     let low = Text::from_slice(alloc, LOW)?;
     let high = Text::from_slice(alloc, HIGH)?;
-    Ok(!is_named(&low, scope.items()) && !is_named(&high, scope.items()))
+    Ok(is_new(&scope, &low) && is_new(&scope, &high))
 }
 
 /// The program that searches from `lo` to `hi`.
@@ -191,8 +191,9 @@ fn searching(alloc: Global, theory: &Theory, lo: i64, hi: i64) -> Result<Program
     requires ends { has_ends lo hi ≡ true }
     ensures { Gives plain_program result (if_takes_leaf (plain_theory theory.now) lo hi) }
 {
-    let leaf = leaf(alloc, &theory.sort)?;
-    match theory.relation.substitute(alloc, &theory.output, &leaf) {
+    let spec = &theory.spec;
+    let leaf = leaf(alloc, &spec.sort)?;
+    match spec.relation.substitute(alloc, &spec.output, &leaf) {
         Ok(test) => Ok(emitted(alloc, theory, test, lo, hi)?),
         Err(SubstFault::Capture) => Err(Refusal::Unbuilt),
         Err(SubstFault::Memory) => Err(Refusal::Memory),
@@ -203,12 +204,12 @@ fn searching(alloc: Global, theory: &Theory, lo: i64, hi: i64) -> Result<Program
 ///
 /// # Errors
 ///
-/// `Unbuilt`: the output is no range, the ends of the search are beyond the limits of integers, the theory has a name of the
-/// search's own, or a name would be captured. `Memory`: memory is wanting.
+/// `Unbuilt`: the output is no range, the ends of the search are beyond the limits of integers, an input or the output has a name
+/// of the search's own, or a name would be captured. `Memory`: memory is wanting.
 pub fn program_for(alloc: Global, theory: &Theory) -> Result<Program, Refusal>
     ensures { Gives plain_program result (program_for (plain_theory theory.now)) }
 {
-    let Sort::Int { lo, hi } = theory.sort else {
+    let Sort::Int { lo, hi } = theory.spec.sort else {
         return Err(Refusal::Unbuilt);
     };
     if !has_ends(lo, hi) || !is_apart(alloc, theory)? {

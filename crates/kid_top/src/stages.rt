@@ -1,22 +1,24 @@
 //! What each file of a command gives. Want of memory and a failure aside, the files that are held decide it.
-ghost use Rattle.std.specs.Prelude.{◌≡◌, true, IfOk, IsErrOf, option_map};
+ghost use Rattle.std.specs.Prelude.{◌≡◌, IfOk, IsErrOf, option_map};
 ghost use Rattle.kid_outer.specs.Causes.{Rose, NeverFall};
+ghost use Rattle.kid_kernel.specs.PlainTheory.{plain_theory};
+ghost use Rattle.kid_theory.specs.IsTheory.{IsTheory};
+ghost use Rattle.kid_theory.specs.Reading.{theory_reading};
 ghost use Rattle.kid_prog.specs.ProgramView.{plain_program};
 ghost use Rattle.kid_prog.specs.Loading.{loading};
 ghost use Rattle.kid_prog.specs.Rules.{IsRunnable};
 ghost use Rattle.kid_run.specs.InputReading.{inputs_reading, envs_of, AllFit};
-ghost use Rattle.kid_top.specs.Theory.{plain_theory};
-ghost use Rattle.kid_top.specs.Spelled.{is_spelled_theory};
-ghost use Rattle.kid_top.specs.Files.{theory_file, script_file};
-ghost use Rattle.kid_top.specs.Outcome.{load_stage, stage, program_or, program_stage, inputs_or, inputs_stage, Outcomes, Comes};
+ghost use Rattle.kid_top.specs.Files.{script_file};
+ghost use Rattle.kid_top.specs.Outcome.{load_stage, stage, theory_or, theory_stage, program_or, program_stage, inputs_or, inputs_stage, Outcomes, Comes};
 
-use crate::files::{script_file, theory_file};
+use crate::files::script_file;
 use crate::refusal::Refusal;
 use crate::stop::Stop;
-use crate::theory::Theory;
+use kid_kernel::Theory;
 use kid_outer::{LoadAnswer, Store};
 use kid_prog::{LoadCode, LoadFault, Program};
 use kid_run::{InputFault, Inputs, read_inputs};
+use kid_theory::{TheoryCode, TheoryFault, read_theory};
 use std::alloc::Global;
 
 /// A file has no more bytes.
@@ -44,23 +46,41 @@ fn load<S: Store>(
     }
 }
 
+/// The theory that the bytes spell.
+fn theory_from(alloc: Global, bytes: &[u8]) -> Result<Theory, Stop>
+    ensures comes { Comes plain_theory result (theory_or (theory_reading bytes.now)) }
+    ensures theory { IfOk result (λ t. IsTheory (plain_theory t)) }
+    ensures failed { IsErrOf result Stop.Failed → ⊥ }
+    ensures fits { IsErrOf result Stop.Usage → ⊥ }
+{
+    match read_theory(alloc, bytes) {
+        Ok(theory) => Ok(theory),
+        Err(
+            TheoryFault {
+                code: TheoryCode::Memory,
+                ..
+            },
+        ) => Err(Stop::Memory),
+        Err(fault) => Err(Stop::Theory(fault)),
+    }
+}
+
 /// The theory that the first file spells.
 pub fn theory_stage<S: Store>(alloc: Global, store: &mut S, name: &str) -> Result<Theory, Stop>
-    ensures outcome { Outcomes (S.held store.old) plain_theory result (λ files. stage 1 theory_file (files name.now)) }
-    ensures spelled { IfOk result (λ t. is_spelled_theory (plain_theory t) ≡ true) }
+    ensures outcome { Outcomes (S.held store.old) plain_theory result (λ files. theory_stage 1 (files name.now)) }
+    ensures theory { IfOk result (λ t. IsTheory (plain_theory t)) }
     ensures held { S.held store.new ≡ S.held store.old }
     ensures failed { IsErrOf result Stop.Failed → Rose (S.faults store.old name.now) (S.faults store.new name.now) }
     ensures later { NeverFall (S.faults store.old) (S.faults store.new) }
     ensures fits { IsErrOf result Stop.Usage → ⊥ }
 {
     let Some(bytes) = load(alloc, store, name, 1)? else {
-        return Err(Stop::Unbuilt(1));
+        return Err(Stop::Theory(TheoryFault {
+            form: 0,
+            code: TheoryCode::Large,
+        }));
     };
-    match theory_file(alloc, &bytes) {
-        Ok(theory) => Ok(theory),
-        Err(Refusal::Unbuilt) => Err(Stop::Unbuilt(1)),
-        Err(Refusal::Memory) => Err(Stop::Memory),
-    }
+    theory_from(alloc, &bytes)
 }
 
 /// Whether the second file spells the script.

@@ -1,8 +1,9 @@
 ghost use Rattle.std.specs.Prelude.{◌≡◌, IfOk};
 ghost use Rattle.std.specs.String.{string_bytes};
-ghost use Rattle.kid_top.specs.Stops.{status_of, numbered_text, code_word, program_text, stop_text};
+ghost use Rattle.kid_top.specs.Stops.{status_of, numbered_text, form_text, theory_word, program_word, stop_text};
 
 use kid_prog::{LoadCode, LoadFault};
+use kid_theory::{TheoryCode, TheoryFault};
 use std::alloc::{AllocError, Global};
 use thiserror::Error;
 
@@ -15,6 +16,8 @@ pub enum Stop {
     Usage,
     #[error("a file or the output failed")]
     Failed,
+    #[error("the theory is refused: {0}")]
+    Theory(TheoryFault),
     #[error("the program is refused: {0}")]
     Program(LoadFault),
     #[error("form {0} of the inputs is none")]
@@ -34,6 +37,7 @@ impl Stop {
             Stop::Memory => 1,
             Stop::Usage => 2,
             Stop::Failed => 3,
+            Stop::Theory(_) => 5,
             Stop::Program(_) => 7,
             Stop::Inputs(_) => 8,
             Stop::Unbuilt(_) => 10,
@@ -49,7 +53,13 @@ impl Stop {
             Stop::Memory => String::from_str(alloc, "(memory)\n"),
             Stop::Usage => String::from_str(alloc, "(usage)\n"),
             Stop::Failed => String::from_str(alloc, "(fault)\n"),
-            Stop::Program(fault) => program_text(alloc, fault),
+            Stop::Theory(fault) => of_form(alloc, "(theory ", fault.form, theory_word(fault.code)),
+            Stop::Program(fault) => of_form(
+                alloc,
+                "(program ",
+                fault.form,
+                program_word(fault.code),
+            ),
             Stop::Inputs(form) => numbered(alloc, "(inputs ", form),
             Stop::Unbuilt(file) => numbered(alloc, "(unbuilt ", u32::from(file)),
             Stop::Absent(file) => numbered(alloc, "(absent ", u32::from(file)),
@@ -68,9 +78,39 @@ fn numbered(alloc: Global, words: &str, number: u32) -> Result<String, AllocErro
     Ok(text)
 }
 
-/// The word for a code.
-fn code_word(code: LoadCode) -> &'static str
-    ensures { result.now ≡ code_word code }
+/// The words, the number of a form, the word for what is wrong with it, and the end of a list and a line.
+fn of_form(alloc: Global, words: &str, form: u32, word: &str) -> Result<String, AllocError>
+    ensures { IfOk result (λ text. string_bytes text ≡ form_text words.now form word.now) }
+{
+    let mut text = String::from_str(alloc, words)?;
+    let number = form.to_string(alloc)?;
+    text.push_str(number.as_str())?;
+    text.push_str(" ")?;
+    text.push_str(word)?;
+    text.push_str(")\n")?;
+    Ok(text)
+}
+
+/// The word for what is wrong with a theory.
+fn theory_word(code: TheoryCode) -> &'static str
+    ensures { result.now ≡ theory_word code }
+{
+    match code {
+        TheoryCode::Large => "large",
+        TheoryCode::Read => "read",
+        TheoryCode::Limit => "limit",
+        TheoryCode::Form => "form",
+        TheoryCode::Name => "name",
+        TheoryCode::Cycle => "cycle",
+        TheoryCode::Sort => "sort",
+        TheoryCode::Proof => "proof",
+        TheoryCode::Memory => "memory",
+    }
+}
+
+/// The word for what is wrong with a program.
+fn program_word(code: LoadCode) -> &'static str
+    ensures { result.now ≡ program_word code }
 {
     match code {
         LoadCode::Large => "large",
@@ -80,17 +120,4 @@ fn code_word(code: LoadCode) -> &'static str
         LoadCode::Sort => "sort",
         LoadCode::Memory => "memory",
     }
-}
-
-/// The line for a program that is refused.
-fn program_text(alloc: Global, fault: LoadFault) -> Result<String, AllocError>
-    ensures { IfOk result (λ text. string_bytes text ≡ program_text fault) }
-{
-    let mut text = String::from_str(alloc, "(program ")?;
-    let number = fault.form.to_string(alloc)?;
-    text.push_str(number.as_str())?;
-    text.push_str(" ")?;
-    text.push_str(code_word(fault.code))?;
-    text.push_str(")\n")?;
-    Ok(text)
 }

@@ -103,50 +103,161 @@ fn runs(rt: HostRuntime) -> Result<(), Fail> {
     ends(&rt, rt.alloc(), &words, &files, 0, text, "")
 }
 
-fn is_unbuilt(rt: &impl Abort, alloc: Global, file: &str, theories: &[&str]) -> Result<(), Fail> {
+/// A theory with definitions of which one calls the other, and a set as its input.
+const HALVES: &str =
+    "(theory halves) (def twice ((n (int 0 9))) (int 0 18) (add n n)) (def has-twice ((s (set (int 0 100))) (z (int 0 9))) bool (some x s (eq x (twice z)))) (input s (set (int 0 100))) (require (lt 0 (card s))) (output z (int 0 9)) (ensure (has-twice s z))";
+
+/// The program that is derived for it.
+const HALVING: &str =
+    "(program 1)\n(def twice ((n (int 0 9))) (int 0 18) (add n n))\n(def has-twice ((s (set (int 0 100))) (z (int 0 9))) bool (some x s (eq x (twice z))))\n(input s (set (int 0 100)))\n(require (lt 0 (card s)))\n(output z (int 0 9))\n(main (if true (call 0 9)))\n(search ((low (int 0 10)) (high (int -1 9))) (if (eq low high) (if (has-twice s (cast (int 0 9) low)) (emit (cast (int 0 9) low)))) (if (lt low high) (if true (call low (div (add low high) 2))) (if true (call (add (div (add low high) 2) 1) high))))\n";
+
+#[test]
+fn solves_with_definitions_and_a_set(rt: HostRuntime) -> Result<(), Fail> {
+    let files = [
+        ("theory", HALVES),
+        ("script", SCRIPT),
+        ("inputs", "((set 7 18 4)) ((set)) ((set 1 3 20))"),
+    ];
     let words = ["solve", "theory", "script", "inputs"];
-    for theory in theories {
-        let files = [("theory", *theory), ("script", SCRIPT), ("inputs", "")];
-        ends(rt, alloc, &words, &files, 10, "", file)?;
-    }
+    let text = "2\n9\n(answers 2 splits 19)\n(outside)\n(answers 0 splits 19)\n";
+    ends(&rt, rt.alloc(), &words, &files, 0, text, "")
+}
+
+#[test]
+fn derives_definitions(rt: HostRuntime) -> Result<(), Fail> {
+    let files = [("theory", HALVES), ("script", SCRIPT)];
+    let words = ["derive", "theory", "script", "derivation", "program"];
+    let ended = called(rt.alloc(), &words, &files)?;
+    assert_eq!(rt; ended.status, 0);
+    let program = ended.store.held("program").unwrap_or(b"");
+    assert_eq!(rt; program, HALVING.as_bytes());
+    let derivation = ended.store.held("derivation").unwrap_or(b"");
+    assert_eq!(rt;
+        derivation,
+        b"(match range (low high) 0 9 (by))\n".as_slice()
+    );
     Ok(())
 }
 
+/// A theory whose inputs are a sequence, a map and a pair, with an axiom that is false where the sequence has items.
+const ROWS: &str =
+    "(theory rows) (input v (seq (int 0 9) 4)) (input m (map (int 0 9) bool)) (input p (pair (int 0 9) bool)) (require true) (axiom short () (given) (holds (eq v (seq)))) (output z (int 0 9)) (ensure (or (in z (items v)) (or (and (in z (dom m)) (get m z false)) (eq (pair z true) p))))";
+
 #[test]
-fn refuses_other_theories(rt: HostRuntime) -> Result<(), Fail> {
-    let theories = [
-        // another order, a form too few and one too many
-        "(theory t) (require true) (input n (int 0 9)) (output z (int 0 9)) (ensure true)",
-        "(theory t) (input n (int 0 9)) (require true) (output z (int 0 9))",
-        "(theory t) (input n (int 0 9)) (require true) (output z (int 0 9)) (ensure true) (ensure true)",
-        // names that are reserved or are given twice
-        "(theory t) (input set (int 0 9)) (require true) (output z (int 0 9)) (ensure true)",
-        "(theory t) (input n bool) (input n bool) (require true) (output z (int 0 9)) (ensure true)",
-        "(theory t) (input n (int 0 9)) (require true) (output n (int 0 9)) (ensure true)",
-        // sorts that are empty or that are not built
-        "(theory t) (input n (int 9 0)) (require true) (output z (int 0 9)) (ensure true)",
-        "(theory t) (input n (set bool)) (require true) (output z (int 0 9)) (ensure true)",
-        "(theory t) (require true) (output z bool) (ensure true)",
-        // conditions that are none, an unknown name, an operator that is not built, and a product beyond the limits
-        "(theory t) (input n (int 0 9)) (require n) (output z (int 0 9)) (ensure true)",
-        "(theory t) (input n (int 0 9)) (require true) (output z (int 0 9)) (ensure (eq z y))",
-        "(theory t) (input n (int 0 9)) (require true) (output z (int 0 9)) (ensure (card z))",
-        "(theory t) (input n (int 0 4611686018427387904)) (require true) (output z (int 0 2)) (ensure (le 0 (mul n z)))",
+fn solves_with_rows(rt: HostRuntime) -> Result<(), Fail> {
+    let files = [
+        ("theory", ROWS),
+        ("script", SCRIPT),
+        (
+            "inputs",
+            "((seq 3 3 8) (map (1 true) (2 false)) (pair 6 true)) ((seq) (map) (pair 6 false))",
+        ),
     ];
-    is_unbuilt(&rt, rt.alloc(), "(unbuilt 1)\n", &theories)
+    let words = ["solve", "theory", "script", "inputs"];
+    let text = "1\n3\n6\n8\n(answers 4 splits 19)\n(answers 0 splits 19)\n";
+    ends(&rt, rt.alloc(), &words, &files, 0, text, "")
+}
+
+fn refuses(rt: &impl Abort, alloc: Global, theory: &str, err: &str) -> Result<(), Fail> {
+    let files = [("theory", theory), ("script", ""), ("inputs", "(x)")];
+    let words = ["solve", "theory", "script", "inputs"];
+    ends(rt, alloc, &words, &files, 5, "", err)
 }
 
 #[test]
-fn refuses_what_the_script_does_not_fit(rt: HostRuntime) -> Result<(), Fail> {
-    let theories = [
-        // names that are the search's own
-        "(theory t) (input low (int 0 9)) (require true) (output z (int 0 9)) (ensure true)",
-        "(theory t) (require true) (output high (int 0 9)) (ensure true)",
-        // ends beyond the limits, and ends whose sum is
-        "(theory t) (require true) (output z (int 0 4611686018427387904)) (ensure true)",
-        "(theory t) (require true) (output z (int 0 2305843009213693952)) (ensure true)",
-    ];
-    is_unbuilt(&rt, rt.alloc(), "(unbuilt 2)\n", &theories)
+fn refuses_theories(rt: HostRuntime) -> Result<(), Fail> {
+    let alloc = rt.alloc();
+    refuses(&rt, alloc, "(theory t", "(theory 0 read)\n")?;
+    refuses(&rt, alloc, "", "(theory 1 form)\n")?;
+    refuses(&rt, alloc, "(theory set)", "(theory 1 name)\n")?;
+    let theory = "(theory t) (input n bool) (input n bool)";
+    refuses(&rt, alloc, theory, "(theory 3 name)\n")?;
+    let theory = "(theory t) (def f ((x bool)) bool (f x))";
+    refuses(&rt, alloc, theory, "(theory 2 cycle)\n")?;
+    let theory = "(theory t) (input s (set (int 1 65537)))";
+    refuses(&rt, alloc, theory, "(theory 2 sort)\n")?;
+    let theory = "(theory t) (require true) (output z (int 0 9)) (ensure z)";
+    refuses(&rt, alloc, theory, "(theory 4 sort)\n")?;
+    let theory = "(theory t) (require true) (output z (int 0 9))";
+    refuses(&rt, alloc, theory, "(theory 4 form)\n")?;
+    let theory = "(theory t) (require true) (output z (int 0 9)) (ensure true) (ensure true)";
+    refuses(&rt, alloc, theory, "(theory 5 form)\n")
+}
+
+#[test]
+fn refuses_too_many_inputs(rt: HostRuntime) -> Result<(), Fail> {
+    let theory =
+        "(theory t) (input a bool) (input b bool) (input c bool) (input d bool) (input e bool) (input f bool) (input g bool) (input h bool) (input i bool) (input j bool) (input k bool) (input l bool) (input m bool) (input n bool) (input o bool) (input p bool) (input q bool)";
+    refuses(&rt, rt.alloc(), theory, "(theory 18 limit)\n")
+}
+
+/// So many bytes.
+fn repeated(alloc: Global, byte: u8, count: usize) -> Result<Vec<u8>, Fail> {
+    let mut bytes = Vec::new(alloc);
+    for _ in 0..count {
+        bytes.push(byte)?;
+    }
+    Ok(bytes)
+}
+
+#[test]
+fn refuses_a_theory_that_is_too_large(rt: HostRuntime) -> Result<(), Fail> {
+    let alloc = rt.alloc();
+    let mut file = repeated(alloc, b' ', 4194304)?;
+    let mut store = SteadyStore::new(alloc);
+    store.hold("theory", &file)?;
+    let words = words_of(alloc, &["solve", "theory", "script", "inputs"])?;
+    let mut out = SteadySink::new(alloc);
+    let mut err = SteadySink::new(alloc);
+    assert_eq!(rt; kids(alloc, &words, &mut store, &mut out, &mut err), 5);
+    file.push(b' ')?;
+    store.hold("theory", &file)?;
+    assert_eq!(rt; kids(alloc, &words, &mut store, &mut out, &mut err), 5);
+    assert_eq!(rt;
+        err.written(),
+        b"(theory 1 form)\n(theory 0 large)\n".as_slice()
+    );
+    Ok(())
+}
+
+fn fits_no_script(rt: &impl Abort, alloc: Global, theory: &str) -> Result<(), Fail> {
+    let files = [("theory", theory), ("script", SCRIPT)];
+    let words = ["solve", "theory", "script", "inputs"];
+    ends(rt, alloc, &words, &files, 10, "", "(unbuilt 2)\n")
+}
+
+#[test]
+fn refuses_outputs_that_the_script_does_not_fit(rt: HostRuntime) -> Result<(), Fail> {
+    let alloc = rt.alloc();
+    // no integers, ends beyond the limits, and ends whose sum is
+    let theory = "(theory t) (require true) (output z bool) (ensure true)";
+    fits_no_script(&rt, alloc, theory)?;
+    let theory = "(theory t) (require true) (output z (set (int 0 9))) (ensure true)";
+    fits_no_script(&rt, alloc, theory)?;
+    let theory = "(theory t) (require true) (output z (int 0 4611686018427387904)) (ensure true)";
+    fits_no_script(&rt, alloc, theory)?;
+    let theory = "(theory t) (require true) (output z (int 0 2305843009213693952)) (ensure true)";
+    fits_no_script(&rt, alloc, theory)
+}
+
+#[test]
+fn refuses_names_of_the_search(rt: HostRuntime) -> Result<(), Fail> {
+    let alloc = rt.alloc();
+    let theory =
+        "(theory t) (input low (int 0 9)) (require true) (output z (int 0 9)) (ensure true)";
+    fits_no_script(&rt, alloc, theory)?;
+    let theory = "(theory t) (require true) (output high (int 0 9)) (ensure true)";
+    fits_no_script(&rt, alloc, theory)?;
+    let theory =
+        "(theory t) (def high () bool true) (require true) (output z (int 0 9)) (ensure true)";
+    fits_no_script(&rt, alloc, theory)?;
+    // a binder, which would capture the leaf's name, and one that has it alone
+    let theory =
+        "(theory t) (require true) (output z (int 0 9)) (ensure (some low (set 1 2) (eq low z)))";
+    fits_no_script(&rt, alloc, theory)?;
+    let theory =
+        "(theory t) (require true) (output z (int 0 9)) (ensure (some low (set 1 2) (eq low 1)))";
+    fits_no_script(&rt, alloc, theory)
 }
 
 fn solves_with(
@@ -203,6 +314,20 @@ fn says_which_file_is_absent(rt: HostRuntime) -> Result<(), Fail> {
     let files = [("theory", SQUARE), ("inputs", "(x)")];
     let words = ["solve", "theory", "script", "inputs"];
     ends(&rt, rt.alloc(), &words, &files, 12, "", "(absent 2)\n")
+}
+
+#[test]
+fn refuses_the_theory_before_the_script(rt: HostRuntime) -> Result<(), Fail> {
+    let files = [("theory", "(theory t)")];
+    let words = ["derive", "theory", "script", "derivation", "program"];
+    ends(&rt, rt.alloc(), &words, &files, 5, "", "(theory 2 form)\n")
+}
+
+#[test]
+fn refuses_the_script_before_the_inputs(rt: HostRuntime) -> Result<(), Fail> {
+    let files = [("theory", SQUARE), ("script", "(match)")];
+    let words = ["solve", "theory", "script", "inputs"];
+    ends(&rt, rt.alloc(), &words, &files, 10, "", "(unbuilt 2)\n")
 }
 
 #[test]

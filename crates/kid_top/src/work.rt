@@ -1,10 +1,10 @@
 //! What a command is to do, once its files are read.
-ghost use Rattle.std.specs.Prelude.{◌≡◌, ◌≢◌, [], ◌<◌, ◌^◌, true, IfOk, IsErrOf};
+ghost use Rattle.std.specs.Prelude.{◌≡◌, ◌≢◌, [], ◌<◌, ◌^◌, IfOk, IsErrOf};
 ghost use Rattle.kid_outer.specs.Causes.{NeverFall, Rose};
+ghost use Rattle.kid_kernel.specs.PlainTheory.{plain_theory};
+ghost use Rattle.kid_theory.specs.IsTheory.{IsTheory};
 ghost use Rattle.kid_prog.specs.ProgramView.{plain_program};
 ghost use Rattle.kid_prog.specs.Rules.{IsRunnable};
-ghost use Rattle.kid_top.specs.Theory.{plain_theory};
-ghost use Rattle.kid_top.specs.Spelled.{is_spelled_theory};
 ghost use Rattle.kid_top.specs.Command.{derive, run, solve};
 ghost use Rattle.kid_top.specs.Words.{plain_command, IsUsable};
 ghost use Rattle.kid_top.specs.Outcome.{Outcomes, run_inputs, run_work, solve_theory, solve_work, derive_theory, derive_work, work_of};
@@ -15,8 +15,8 @@ use crate::derivation::derivation_text;
 use crate::derived::script_program;
 use crate::stages::{inputs_stage, program_stage, theory_stage};
 use crate::stop::Stop;
-use crate::theory::Theory;
 use crate::words::Command;
+use kid_kernel::Theory;
 use kid_outer::Store;
 use kid_prog::{Program, text};
 use kid_run::Inputs;
@@ -94,7 +94,7 @@ fn solve_theory<'a, S: Store>(
     inputs: &str,
     fuel: u64,
 ) -> Result<Work<'a>, Stop>
-    requires spelled { is_spelled_theory (plain_theory theory.now) ≡ true }
+    requires theory { IsTheory (plain_theory theory.now) }
     requires fuel { fuel < 2 ^ 63 }
     ensures outcome { Outcomes (S.held store.old) plain_work result (λ files. solve_theory files script.now inputs.now fuel (plain_theory theory.now)) }
     ensures ready { IfOk result IsReady }
@@ -138,7 +138,7 @@ fn derive_theory<'a, S: Store>(
     derivation: &'a str,
     program: &'a str,
 ) -> Result<Work<'a>, Stop>
-    requires spelled { is_spelled_theory (plain_theory theory.now) ≡ true }
+    requires theory { IsTheory (plain_theory theory.now) }
     requires apart { derivation.now ≢ program.now }
     ensures ready { IfOk result IsReady }
     ensures outcome { Outcomes (S.held store.old) plain_work result (λ files. derive_theory files script.now derivation.now program.now (plain_theory theory.now)) }

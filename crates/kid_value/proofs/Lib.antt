@@ -3,6 +3,7 @@ pub mod CanonicalTests
 pub mod CompareLemmas
 pub mod CountLemmas
 pub mod EntryLemmas
+pub mod FoundLemmas
 pub mod JoinLemmas
 pub mod LeastLemmas
 pub mod MapOrderLaws

@@ -321,7 +321,7 @@ AllAfter-row_entries a lo (g ∷ gs) h = by_cases (item_value g) (AllAfter-row_e
     by_cases None k = k
     by_cases (Some v) k = (number_before a lo h, k)
 
-Ascends-row_entries : (lo : ℤ) (gs : List PlainValue) → Ascends (keys (row_entries lo gs))
+pub Ascends-row_entries : (lo : ℤ) (gs : List PlainValue) → Ascends (keys (row_entries lo gs))
 Ascends-row_entries lo [] = tt
 Ascends-row_entries lo (g ∷ gs) = by_cases (item_value g) (Ascends-row_entries (lo +ℤ pos 1) gs)
   where

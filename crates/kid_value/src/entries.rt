@@ -1,4 +1,4 @@
-ghost use Rattle.std.specs.Prelude.{◌≡◌, ◌≤◌, OnOk, OnErr, MatchResult, MatchOption, Option, map, [], length, slice_get, set, ◌<◌, vec_len, if◌then◌else◌};
+ghost use Rattle.std.specs.Prelude.{◌≡◌, ◌≤◌, OnOk, OnErr, MatchResult, MatchOption, Option, Some, None, map, [], ◌∷◌, ◌++◌, length, slice_get, set, ◌<◌, vec_len, if◌then◌else◌};
 ghost use Rattle.kid_value.specs.Canonical.{IsCanonical};
 ghost use Rattle.kid_value.specs.PlainValue.{PlainValue, map_of, table};
 ghost use Rattle.kid_value.specs.ValueMap.{put_entry, lookup, keys, HoldsKey, KeyStandsAt};
@@ -71,6 +71,28 @@ impl Entries {
                 self.items.insert(at, (k, v))?;
                 Ok(())
             }
+        }
+    }
+
+    /// Adds an entry whose key is after the others. Where memory is wanting the map stays as it was.
+    pub fn push(&mut self, k: Value, v: Value) -> Result<(), Memory>
+        requires { Ascends (keys self.old ++ plain k ∷ []) }
+        ensures ok { OnOk result (self.new ≡ self.old ++ (plain k, plain v) ∷ []) }
+        ensures err { OnErr result (self.new ≡ self.old) }
+    {
+        k.canonical();
+        v.canonical();
+        self.items.push((k, v))?;
+        Ok(())
+    }
+
+    /// The value of a key, or `None` where the map lacks the key.
+    pub fn get(&self, k: &Value) -> Option<&Value>
+        ensures { MatchOption result (lookup (plain k.now) self.now ≡ None) (λ v. lookup (plain k.now) self.now ≡ Some (plain v.now)) }
+    {
+        match place_of_key(self.items.as_slice(), k) {
+            Ok(at) => Some(&self.items[at].1),
+            Err(_) => None,
         }
     }
 

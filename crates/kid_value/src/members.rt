@@ -7,6 +7,7 @@ ghost use Rattle.kid_value.specs.ValueView.{plain};
 use crate::memory::Memory;
 use crate::order::compare;
 use crate::value::Value;
+use crate::values::Values;
 use std::alloc::Global;
 use std::cmp::Ordering;
 use std::marker::Model;
@@ -53,6 +54,16 @@ impl Members {
         }
     }
 
+    /// The set of values that ascend.
+    pub fn from_ascending(values: Values) -> Members
+        requires { Ascends values }
+        ensures { result ≡ values }
+    {
+        Members {
+            items: values.items,
+        }
+    }
+
     /// Adds a member, and changes nothing where it is there already. Where memory is wanting the set stays as it was.
     pub fn put(&mut self, v: Value) -> Result<(), Memory>
         ensures ok { OnOk result (self.new ≡ put (plain v) self.old) }
@@ -67,6 +78,13 @@ impl Members {
                 Ok(())
             }
         }
+    }
+
+    /// Whether the set has a value.
+    pub fn contains(&self, v: &Value) -> bool
+        ensures { result ≡ is_member (plain v.now) self.now }
+    {
+        place_of(self.items.as_slice(), v).is_ok()
     }
 
     /// The members, ascending.

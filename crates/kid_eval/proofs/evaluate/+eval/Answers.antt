@@ -3,16 +3,17 @@ use Rattle.std.specs.Prelude.{IfOk, not, filter}
 use Rattle.kid_value.specs.PlainValue.{PlainValue, bool}
 use Rattle.kid_value.specs.ValueView.{plain}
 use Rattle.kid_value.specs.Rows.{truth_of, members_of, set_from}
+use Rattle.kid_term.specs.PlainTerm.{term_row}
 use Rattle.kid_term.specs.TermView.{plain_term}
 use Rattle.kid_term.specs.DefView.{plain_def}
 use Rattle.kid_term.specs.Cost.{cost, costs_of}
-use Rattle.kid_term.specs.Eval.{eval, binder_value, calls_of}
-use Rattle.kid_term.specs.Small.{checks_of}
+use Rattle.kid_term.specs.Eval.{op_value, eval, evals, binder_value, calls_of}
+use Rattle.kid_term.specs.Small.{is_small, checks_of}
 use Rattle.kid_eval.specs.Binding.{kept}
 use Rattle.kid_eval.specs.Inside.{value_in, value_with}
-use Rattle.kid_eval.specs.ScopeView.{env_of}
+use Rattle.kid_eval.specs.ScopeView.{plain_seen, env_of}
 use Rattle.kid_eval.proofs.BindingLemmas.{all_found, some_found, kept_passing}
-use Rattle.kid_eval.proofs.SmallLemmas.{small_at, small_bind, cost-lt-all}
+use Rattle.kid_eval.proofs.SmallLemmas.{small_at, small_bind, small_op, cost-lt-all}
 use Rattle.kid_eval.proofs.evaluate.+eval.Goals as goal
 
 pub bind-returns-in_ok-fails-in-All : goal.bind-returns-in_ok-fails-in-All
@@ -43,6 +44,15 @@ see_all-see-requires t c = (
   small_at (calls_of (map plain_def c.args.defs.now)) (checks_of (map plain_def c.args.defs.now)) (env_of c.args.scope.now) c.args.terms.now c.loop-t.t-index c.t-item.result (omega arith)
       c.t-item.is c.loop-t.invariant.small,
 )
+
+pub value_of-row-requires-clause-small : goal.value_of-row-requires-clause-small
+value_of-row-requires-clause-small t c =
+    let calls = calls_of (map plain_def c.args.defs.now) in
+    let env = env_of c.args.scope.now in
+    let values : map plain_seen c.in_ok-values-in-App.values.items ≡ evals calls env (term_row c.in-App.args)
+    = c.in_ok-values-in-App.ensures ∙ ap (λ z. evals calls env (term_row z)) c.items.ensures in
+    ap (λ z. is_small (op_value c.in-Op.op z)) values
+    ∙ small_op calls (checks_of (map plain_def c.args.defs.now)) env c.in-Op.op (term_row c.in-App.args) (rw c.in-Op.is at rw c.in-App.is at c.requires)
 
 pub value_of-see-requires : goal.value_of-see-requires
 value_of-see-requires t c =

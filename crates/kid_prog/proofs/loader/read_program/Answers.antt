@@ -1,5 +1,5 @@
 use Rattle.std.proofs.Common.{arith}
-use Rattle.kid_prog.proofs.Sizes.{trees_fit}
+use Rattle.kid_sexp.proofs.Sizes.{trees_fit}
 use Rattle.kid_prog.proofs.loader.read_program.Goals as goal
 
 pub program_from-requires : goal.program_from-requires

@@ -1,7 +1,7 @@
+use Rattle.kid_kernel.specs.PlainTheory.{plain_theory}
 use Rattle.kid_prog.specs.ProgramView.{plain_program}
-use Rattle.kid_top.specs.Theory.{plain_theory}
 use Rattle.kid_top.proofs.EmittedSpelled.{emitted_spelled}
 use Rattle.kid_top.proofs.derived.emitted_program.Goals as goal
 
 pub reloaded-requires : goal.reloaded-requires
-reloaded-requires c = emitted_spelled (plain_theory c.args.theory.now) (plain_program c.in-Ok.program) c.requires c.in-Ok.ensures
+reloaded-requires c = emitted_spelled (plain_theory c.args.theory.now) (plain_program c.in-Ok.program) c.requires.spelled c.in-Ok.ensures

@@ -1,17 +1,16 @@
 use Rattle.std.proofs.Common.{Option, subst}
 use Rattle.kid_outer.specs.Held.{Held}
 use Rattle.kid_top.specs.declared.work.Work.{Work as Given}
-use Rattle.kid_top.specs.Files.{theory_file}
-use Rattle.kid_top.specs.Outcome.{Work, Outcomes, stage, solve_theory}
+use Rattle.kid_top.specs.Outcome.{Work, Outcomes, theory_stage, solve_theory}
 use Rattle.kid_top.specs.Risen.{TheoryRose}
-use Rattle.kid_top.specs.Theory.{plain_theory}
+use Rattle.kid_kernel.specs.PlainTheory.{plain_theory}
 use Rattle.kid_top.specs.WorkView.{plain_work}
 use Rattle.kid_top.proofs.StageLemmas.{after_stage, solve_rose}
 use Rattle.kid_top.proofs.work.solve_work.Goals as goal
 
 pub returns-clause-outcome : goal.returns-clause-outcome
 returns-clause-outcome g c =
-    after_stage (g.S.Store.held c.args.store.now) plain_theory c.in_ok-theory.theory plain_work c.solve_theory.result (λ files. stage 1 theory_file (files c.args.theory.now))
+    after_stage (g.S.Store.held c.args.store.now) plain_theory c.in_ok-theory.theory plain_work c.solve_theory.result (λ files. theory_stage 1 (files c.args.theory.now))
     (λ files t. solve_theory files c.args.script.now c.args.inputs.now c.args.fuel t) c.in_ok-theory.ensures.outcome
     (subst (λ (h : Option Held). Outcomes {X = Given} {Y = Work} h plain_work c.solve_theory.result
     (λ files. solve_theory files c.args.script.now c.args.inputs.now c.args.fuel (plain_theory c.in_ok-theory.theory)))

@@ -1,0 +1,4 @@
+pub mod LawCode
+pub mod LawView
+pub mod PlainLaw
+pub mod PlainTheory

@@ -1,0 +1,12 @@
+//! Theories: problems with their definitions, laws and axioms.
+#![tactic(auto)]
+
+mod law;
+mod theory;
+
+pub use kid_term::{RefineForm, Spec, Why};
+pub use law::{Axiom, Axioms, Conclusion, Law, Laws};
+pub use theory::Theory;
+
+#[cfg(test)]
+mod tests;

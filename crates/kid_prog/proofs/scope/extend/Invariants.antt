@@ -1,6 +1,0 @@
-use Rattle.std.proofs.Common.{◌≡◌, ◌++◌, map, drop}
-use Rattle.kid_value.specs.NameView.{plain_name}
-use Rattle.kid_prog.proofs.scope.extend.Given as goal
-
-abbrev pub invariant-loop-name : goal.invariant-loop-name
-invariant-loop-name l = l.names ++ map plain_name (drop l.name-index l.name-items) ≡ l.initial.names ++ l.more

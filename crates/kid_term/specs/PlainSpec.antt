@@ -1,0 +1,29 @@
+-- A problem as plain data.
+use Rattle.std.specs.Prelude.{ℕ, List, [], ◌∷◌, ◌++◌}
+use Rattle.kid_value.specs.PlainSort.{PlainSort}
+use Rattle.kid_value.specs.SortView.{plain_sort}
+use Rattle.kid_term.specs.Names.{Names}
+use Rattle.kid_term.specs.PlainTerm.{PlainTerm}
+use Rattle.kid_term.specs.TermView.{plain_term}
+use Rattle.kid_term.specs.declared.spec.Spec.{Spec}
+
+-- the inputs with their sorts, the condition that they meet, the output with its sort, and the relation between the inputs and the output
+pub record PlainSpec : Type 0 where
+  pub inputs : Names
+  pub condition : PlainTerm
+  pub output : List ℕ
+  pub sort : PlainSort
+  pub relation : PlainTerm
+
+abbrev pub plain_spec : Spec → PlainSpec
+plain_spec s = record {
+  inputs = s.inputs;
+  condition = plain_term s.condition;
+  output = s.output;
+  sort = plain_sort s.sort;
+  relation = plain_term s.relation;
+}
+
+-- the names that the relation sees
+abbrev pub relation_scope : PlainSpec → Names
+relation_scope s = s.inputs ++ (s.output, s.sort) ∷ []

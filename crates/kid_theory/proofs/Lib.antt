@@ -1,0 +1,12 @@
+pub mod CommonSorts
+pub mod DepthLemmas
+pub mod FormTold
+pub mod Laws
+pub mod NameRows
+pub mod Passed
+pub mod ShapeTold
+pub mod StageLemmas
+pub mod Stages
+pub mod TakenLemmas
+pub mod TheoryTold
+pub mod TermRows

@@ -1,0 +1,105 @@
+-- The forms of a theory: what each holds by its shape, and the rules that it meets, in the order in which they are tested.
+use Rattle.std.specs.Prelude.{ℕ, nat_lt, Bool, true, false, not, ◌&&◌, List, [], ◌∷◌, ◌++◌, length, Option, Some, None, is_some, Ok, codes}
+use Rattle.std.specs.List.{list_all}
+use Rattle.kid_sexp.specs.Plain.{Plain, Plains}
+use Rattle.kid_value.specs.PlainSort.{PlainSort, join, is_allowed}
+use Rattle.kid_term.specs.PlainTerm.{PlainTerm, var, number, truth, app, bind, PlainTerms, no_term, term}
+use Rattle.kid_term.specs.Names.{Names, PlainDef}
+use Rattle.kid_term.specs.Sorted.{Sorted}
+use Rattle.kid_term.specs.Sorting.{sort_of}
+use Rattle.kid_sorting.specs.Declaring.{are_allowed, is_truth, is_sorted_definition, is_shallow}
+use Rattle.kid_codec.specs.Name.{is_name}
+use Rattle.kid_codec.specs.Shape.{form}
+use Rattle.kid_kernel.specs.PlainLaw.{PlainConclusion, equal, holds, PlainLaw}
+use Rattle.kid_theory.specs.Judged.{Judged, ◌>>=◌, shaped, tested}
+use Rattle.kid_theory.specs.Taken.{Taken, is_free, are_free}
+use Rattle.kid_theory.specs.Ahead.{calls_ahead}
+use Rattle.kid_theory.specs.Shapes.{lone_word, lone_term, declared_form, definition_shape, axiom_shape}
+use Rattle.kid_theory.specs.declared.fault.TheoryCode.TheVariants as code
+
+-- whether the form begins with the word
+abbrev pub begins : List ℕ → Plain → Bool
+begins word t = is_there (form word t)
+  where
+    is_there : Option Plains → Bool
+    is_there None = false
+    is_there (Some ts) = true
+
+-- ---- (theory NAME)
+
+abbrev pub title_form : Plain → Judged (Unit {0})
+title_form t = shaped (lone_word (codes "theory") t) >>= λ w. tested (is_name w) code.Name (Ok tt)
+
+-- ---- (def NAME ((NAME SORT) ..) SORT TERM), after these definitions and before the other forms
+
+abbrev pub judged_definition : List PlainDef → Taken → Plains → PlainDef → Judged PlainDef
+judged_definition defs taken later d =
+    tested (is_shallow defs d) code.Limit
+    (tested (is_free taken d.name && are_free [] d.parameters) code.Name
+    (tested (not (calls_ahead d.name later d.body)) code.Cycle
+    (tested (is_sorted_definition defs d) code.Sort (Ok d))))
+
+abbrev pub definition_form : List PlainDef → Taken → Plains → Plain → Judged PlainDef
+definition_form defs taken later t = shaped (definition_shape t) >>= judged_definition defs taken later
+
+-- ---- (input NAME SORT), after these inputs, and (output NAME SORT)
+
+abbrev pub judged_name : Taken → List ℕ × PlainSort → Judged (List ℕ × PlainSort)
+judged_name taken n = tested (is_free taken n.0) code.Name (tested (is_allowed n.1) code.Sort (Ok n))
+
+abbrev pub input_form : Names → Taken → Plain → Judged (List ℕ × PlainSort)
+input_form inputs taken t = tested (nat_lt (length inputs) 16) code.Limit (shaped (declared_form (codes "input") t) >>= judged_name taken)
+
+abbrev pub output_form : Taken → Plain → Judged (List ℕ × PlainSort)
+output_form taken t = shaped (declared_form (codes "output") t) >>= judged_name taken
+
+-- ---- (require TERM) and (ensure TERM) over names
+
+abbrev pub condition_form : List ℕ → List PlainDef → Names → Plain → Judged PlainTerm
+condition_form word defs names t =
+    shaped (lone_term word t) >>= λ c. tested (is_truth (sort_of defs names c)) code.Sort (Ok c)
+
+-- ---- (axiom NAME ((NAME SORT) ..) (given TERM ..) CONCLUSION)
+
+-- no binder stands in the term
+abbrev mutual
+  pub is_unbound : PlainTerm → Bool
+  is_unbound (var x) = true
+  is_unbound (number n) = true
+  is_unbound (truth b) = true
+  is_unbound (app h ts) = are_unbound ts
+  is_unbound (bind b x s t) = false
+
+  pub are_unbound : PlainTerms → Bool
+  are_unbound no_term = true
+  are_unbound (term t ts) = is_unbound t && are_unbound ts
+
+-- a condition of a law
+abbrev pub is_condition : List PlainDef → Names → PlainTerm → Bool
+is_condition defs names c = is_unbound c && is_truth (sort_of defs names c)
+
+-- both sorts are there and have a common one
+abbrev pub have_common : Sorted → Sorted → Bool
+have_common (Ok a) (Ok b) = is_some (join a b)
+have_common r s = false
+
+abbrev pub is_sorted_conclusion : List PlainDef → Names → PlainConclusion → Bool
+is_sorted_conclusion defs names (equal l r) = is_unbound l && is_unbound r && have_common (sort_of defs names l) (sort_of defs names r)
+is_sorted_conclusion defs names (holds c) = is_condition defs names c
+
+-- variables of allowed sorts, and conditions and a conclusion without binders that have sorts over the inputs and the variables
+abbrev pub is_sorted_law : List PlainDef → Names → PlainLaw → Bool
+is_sorted_law defs inputs l =
+    are_allowed l.variables && list_all (is_condition defs (inputs ++ l.variables)) l.conditions
+    && is_sorted_conclusion defs (inputs ++ l.variables) l.conclusion
+
+-- the name differs from all names before and from the variables of the laws before, the variables from all names and from it
+abbrev pub is_named_law : Taken → Taken → PlainLaw → Bool
+is_named_law taken variables l = is_free (taken ++ variables) l.name && are_free (taken ++ l.name ∷ []) l.variables
+
+abbrev pub judged_law : List PlainDef → Names → Taken → Taken → PlainLaw → Judged PlainLaw
+judged_law defs inputs taken variables l =
+    tested (is_named_law taken variables l) code.Name (tested (is_sorted_law defs inputs l) code.Sort (Ok l))
+
+abbrev pub axiom_form : List PlainDef → Names → Taken → Taken → Plain → Judged PlainLaw
+axiom_form defs inputs taken variables t = shaped (axiom_shape t) >>= judged_law defs inputs taken variables

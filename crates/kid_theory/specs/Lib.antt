@@ -1,0 +1,9 @@
+pub mod Ahead
+pub mod Answers
+pub mod Forms
+pub mod FrontView
+pub mod IsTheory
+pub mod Judged
+pub mod Reading
+pub mod Shapes
+pub mod Taken

@@ -1,0 +1,427 @@
+//! The theory that a file spells.
+ghost use Rattle.std.specs.Prelude.{◌≡◌, ◌≤◌, ◌<◌, ◌+◌, ◌^◌, ◌∷◌, ◌++◌, [], IfOk, length, codes};
+ghost use Rattle.kid_sexp.specs.Tree.{plain, plains};
+ghost use Rattle.kid_value.specs.NameView.{plain_name};
+ghost use Rattle.kid_value.specs.SortView.{plain_sort};
+ghost use Rattle.kid_term.specs.CallDepth.{depths_of};
+ghost use Rattle.kid_term.specs.DefView.{plain_def};
+ghost use Rattle.kid_term.specs.TermView.{plain_term};
+ghost use Rattle.kid_kernel.specs.LawView.{plain_axiom};
+ghost use Rattle.kid_kernel.specs.PlainTheory.{plain_theory};
+ghost use Rattle.kid_theory.specs.Answers.{Judges, Reads, fault_at, placed, located};
+ghost use Rattle.kid_theory.specs.Forms.{condition_form as condition_form_of, output_form as output_form_of, axiom_form as axiom_form_of, definition_form as definition_form_of};
+ghost use Rattle.kid_theory.specs.FrontView.{plain_front};
+ghost use Rattle.kid_theory.specs.IsTheory.{IsTheory, ReadTheories};
+ghost use Rattle.kid_theory.specs.Reading.{theory_with, with_axiom, front_of, at_end, after_output, after_condition, after_inputs, after_definitions, theory_from, theory_reading};
+
+use crate::fault::{TheoryCode, TheoryFault};
+use crate::forms::{
+    Known, begins, condition_form, definition_form, input_form, output_form, title_form,
+};
+use crate::law_form::axiom_form;
+use crate::names::{add_words, declare, joined as joined_texts};
+use kid_kernel::{Axiom, Axioms, Laws, Spec, Theory};
+use kid_sexp::{ReadFault, Tree, read};
+use kid_sorting::Signature;
+use kid_sorting::names::{copied, with_name};
+use kid_term::{CallDepths, Def, Defs, Term};
+use kid_value::{Memory, Names, Sort, Text, Texts};
+use std::alloc::Global;
+
+/// A file has no more bytes.
+const MAX_BYTES: usize = 4_194_304;
+
+/// A theory has no more forms.
+const MAX_FORMS: u32 = 1024;
+
+/// The definitions so far, the depth of each, and their names.
+#[derive(Drop)]
+struct Definitions {
+    all: Defs,
+    depths: CallDepths,
+    taken: Texts,
+}
+
+fn fault_at(number: u32, code: TheoryCode) -> TheoryFault
+    ensures { result ≡ fault_at number code }
+{
+    match code {
+        TheoryCode::Memory => TheoryFault { form: 0, code },
+        _ => TheoryFault { form: number, code },
+    }
+}
+
+fn placed<T: Drop>(number: u32, found: Result<T, TheoryCode>) -> Result<T, TheoryFault>
+    ensures { result ≡ placed number found }
+{
+    match found {
+        Ok(held) => Ok(held),
+        Err(code) => Err(fault_at(number, code)),
+    }
+}
+
+/// What the form of this number holds, of which there are at most 1024.
+fn at<T: Drop>(number: u32, found: Result<T, TheoryCode>) -> Result<T, TheoryFault>
+    ensures { result ≡ located number found }
+{
+    if number <= MAX_FORMS {
+        placed(number, found)
+    } else {
+        Err(fault_at(number, TheoryCode::Limit))
+    }
+}
+
+/// What the forms before hold, once the condition is among them.
+#[derive(Drop)]
+struct Front {
+    definitions: Defs,
+    inputs: Names,
+    taken: Texts,
+    condition: Term,
+    axioms: Axioms,
+    variables: Texts,
+}
+
+fn theory_with(
+    alloc: Global,
+    front: Front,
+    output: Text,
+    sort: Sort,
+    relation: Term,
+) -> Result<Theory, Memory>
+    ensures { IfOk result (λ t. plain_theory t ≡ theory_with (plain_front front) (output, plain_sort sort) (plain_term relation)) }
+{
+    let Front {
+        definitions,
+        inputs,
+        condition,
+        axioms,
+        ..
+    } = front;
+    let spec = Spec {
+        inputs: copied(alloc, &inputs)?,
+        condition,
+        output,
+        sort,
+        relation,
+    };
+    Ok(Theory {
+        signature: Signature::from_parts(definitions, inputs),
+        laws: Laws::new(alloc),
+        axioms,
+        spec,
+    })
+}
+
+/// The theory, where no form stands after the last. Of this and each function below, `before` counts the forms before the trees.
+fn at_end(before: u32, theory: Theory, trees: &[Tree]) -> Result<Theory, TheoryFault>
+    requires { before + length trees.now + 1 < 2 ^ 32 }
+    ensures { Reads plain_theory result (at_end before (plain_theory theory) (plains trees.now)) }
+{
+    if trees.is_empty() {
+        Ok(theory)
+    } else {
+        at(before + 1, Err(TheoryCode::Form))
+    }
+}
+
+/// The names that the relation sees, and then the relation.
+fn relation_form(
+    alloc: Global,
+    front: &Front,
+    output: &Text,
+    sort: &Sort,
+    tree: &Tree,
+) -> Result<Term, TheoryCode>
+    ensures { Judges plain_term result (let f = plain_front front.now in condition_form_of (codes "ensure") f.definitions (f.inputs ++ (output.now, plain_sort sort.now) ∷ []) (plain tree.now)) }
+{
+    let names = with_name(alloc, &front.inputs, output, sort)?;
+    condition_form(alloc, b"ensure", front.definitions.items(), &names, tree)
+}
+
+fn after_output(
+    alloc: Global,
+    before: u32,
+    front: Front,
+    output: Text,
+    sort: Sort,
+    trees: &[Tree],
+) -> Result<Theory, TheoryFault>
+    requires { before + length trees.now + 1 < 2 ^ 32 }
+    ensures { Reads plain_theory result (after_output before (plain_front front) (output, plain_sort sort) (plains trees.now)) }
+{
+    let number = before + 1;
+    let Some((tree, rest)) = trees.split_first() else {
+        return Err(fault_at(number, TheoryCode::Form));
+    };
+    let relation = at(number, relation_form(alloc, &front, &output, &sort, tree))?;
+    let theory = theory_with(alloc, front, output, sort, relation)?;
+    at_end(number, theory, rest)
+}
+
+/// The output's name and sort, which no name before has and no variable of an axiom.
+fn output_after(alloc: Global, front: &Front, tree: &Tree) -> Result<(Text, Sort), TheoryCode>
+    ensures { Judges plain_name result (let f = plain_front front.now in output_form_of (f.taken ++ f.variables) (plain tree.now)) }
+{
+    let taken = joined_texts(alloc, &front.taken, &front.variables)?;
+    output_form(alloc, &taken, tree)
+}
+
+/// What the axiom of a form is.
+fn axiom_after(alloc: Global, front: &Front, tree: &Tree) -> Result<Axiom, TheoryCode>
+    ensures { Judges plain_axiom result (let f = plain_front front.now in axiom_form_of f.definitions f.inputs f.taken f.variables (plain tree.now)) }
+{
+    axiom_form(
+        alloc,
+        front.definitions.items(),
+        &front.inputs,
+        &front.taken,
+        &front.variables,
+        tree,
+    )
+}
+
+/// The forms before, with one more axiom.
+fn with_axiom(alloc: Global, front: Front, law: Axiom) -> Result<Front, Memory>
+    ensures { IfOk result (λ f. plain_front f ≡ with_axiom (plain_front front) (plain_axiom law)) }
+{
+    let Front {
+        definitions,
+        inputs,
+        mut taken,
+        condition,
+        mut axioms,
+        mut variables,
+    } = front;
+    declare(alloc, &mut taken, &law.name)?;
+    add_words(alloc, &mut variables, &law.variables)?;
+    axioms.push(law)?;
+    Ok(Front {
+        definitions,
+        inputs,
+        taken,
+        condition,
+        axioms,
+        variables,
+    })
+}
+
+fn after_condition(
+    alloc: Global,
+    before: u32,
+    front: Front,
+    trees: &[Tree],
+) -> Result<Theory, TheoryFault>
+    requires { before + length trees.now + 1 < 2 ^ 32 }
+    ensures { Reads plain_theory result (after_condition before (plain_front front) (plains trees.now)) }
+{
+    let number = before + 1;
+    let Some((tree, rest)) = trees.split_first() else {
+        return Err(fault_at(number, TheoryCode::Form));
+    };
+    if begins(b"axiom", tree) {
+        let law = at(number, axiom_after(alloc, &front, tree))?;
+        let front = with_axiom(alloc, front, law)?;
+        after_condition(alloc, number, front, rest)
+    } else {
+        let (output, sort) = at(number, output_after(alloc, &front, tree))?;
+        after_output(alloc, number, front, output, sort, rest)
+    }
+}
+
+fn front_of(alloc: Global, definitions: Defs, inputs: Names, taken: Texts, condition: Term) -> Front
+    ensures { plain_front result ≡ front_of definitions inputs taken (plain_term condition) }
+{
+    Front {
+        definitions,
+        inputs,
+        taken,
+        condition,
+        axioms: Axioms::new(alloc),
+        variables: Texts::new(alloc),
+    }
+}
+
+/// What the form `require` holds.
+fn requirement(
+    alloc: Global,
+    definitions: &Defs,
+    inputs: &Names,
+    tree: &Tree,
+) -> Result<Term, TheoryCode>
+    ensures { Judges plain_term result (condition_form_of (codes "require") definitions.now inputs.now (plain tree.now)) }
+{
+    condition_form(alloc, b"require", definitions.items(), inputs, tree)
+}
+
+fn after_inputs(
+    alloc: Global,
+    before: u32,
+    definitions: Defs,
+    inputs: Names,
+    taken: Texts,
+    trees: &[Tree],
+) -> Result<Theory, TheoryFault>
+    requires { before + length trees.now + 1 < 2 ^ 32 }
+    ensures { Reads plain_theory result (after_inputs before definitions inputs taken (plains trees.now)) }
+{
+    let number = before + 1;
+    let Some((tree, rest)) = trees.split_first() else {
+        return Err(fault_at(number, TheoryCode::Form));
+    };
+    if begins(b"input", tree) {
+        let (name, sort) = at(number, input_form(alloc, &inputs, &taken, tree))?;
+        let mut inputs = inputs;
+        let mut taken = taken;
+        declare(alloc, &mut taken, &name)?;
+        inputs.push(name, sort)?;
+        after_inputs(alloc, number, definitions, inputs, taken, rest)
+    } else {
+        let condition = at(number, requirement(alloc, &definitions, &inputs, tree))?;
+        let front = front_of(alloc, definitions, inputs, taken, condition);
+        after_condition(alloc, number, front, rest)
+    }
+}
+
+/// The definitions, and then this one.
+#[tactic(auto, using(crate::proofs::DepthLemmas::depths_more))]
+fn with_definition(
+    alloc: Global,
+    known: Definitions,
+    definition: Def,
+) -> Result<Definitions, Memory>
+    requires { known.depths ≡ depths_of known.all }
+    ensures { IfOk result (λ k. (k.all ≡ known.all ++ plain_def definition ∷ []) × (k.depths ≡ depths_of k.all) × (k.taken ≡ known.taken ++ definition.name ∷ [])) }
+{
+    let Definitions {
+        mut all,
+        mut depths,
+        mut taken,
+    } = known;
+    let depth = depths.of_body(&definition.body);
+    depths.push(definition.name.copy(alloc)?, depth)?;
+    declare(alloc, &mut taken, &definition.name)?;
+    all.push(definition)?;
+    Ok(Definitions { all, depths, taken })
+}
+
+/// The definition of a form, after those that are known.
+fn definition_after(
+    alloc: Global,
+    known: &Definitions,
+    later: &[Tree],
+    tree: &Tree,
+) -> Result<Def, TheoryCode>
+    requires { known.now.depths ≡ depths_of known.now.all }
+    ensures { Judges plain_def result (definition_form_of known.now.all known.now.taken (plains later.now) (plain tree.now)) }
+{
+    let before = Known {
+        definitions: known.all.items(),
+        depths: &known.depths,
+        taken: &known.taken,
+    };
+    definition_form(alloc, &before, later, tree)
+}
+
+fn after_definitions(
+    alloc: Global,
+    before: u32,
+    known: Definitions,
+    trees: &[Tree],
+) -> Result<Theory, TheoryFault>
+    requires count { before + length trees.now + 1 < 2 ^ 32 }
+    requires depths { known.depths ≡ depths_of known.all }
+    ensures { Reads plain_theory result (after_definitions before known.all known.taken (plains trees.now)) }
+{
+    let number = before + 1;
+    let Some((tree, rest)) = trees.split_first() else {
+        return Err(fault_at(number, TheoryCode::Form));
+    };
+    if begins(b"def", tree) {
+        let definition = at(number, definition_after(alloc, &known, rest, tree))?;
+        let known = with_definition(alloc, known, definition)?;
+        after_definitions(alloc, number, known, rest)
+    } else {
+        let Definitions { all, taken, .. } = known;
+        after_inputs(alloc, before, all, Names::new(alloc), taken, trees)
+    }
+}
+
+fn theory_from(alloc: Global, trees: &[Tree]) -> Result<Theory, TheoryFault>
+    requires { length trees.now + 1 < 2 ^ 32 }
+    ensures { Reads plain_theory result (theory_from (plains trees.now)) }
+{
+    let Some((tree, rest)) = trees.split_first() else {
+        return Err(fault_at(1, TheoryCode::Form));
+    };
+    at(1, title_form(alloc, tree))?;
+    let none = Definitions {
+        all: Defs::new(alloc),
+        depths: CallDepths::new(alloc),
+        taken: Texts::new(alloc),
+    };
+    after_definitions(alloc, 1, none, rest)
+}
+
+fn read_file(alloc: Global, bytes: &[u8]) -> Result<Theory, TheoryFault>
+    ensures { Reads plain_theory result (theory_reading bytes.now) }
+{
+    if bytes.len() > MAX_BYTES {
+        return Err(TheoryFault {
+            form: 0,
+            code: TheoryCode::Large,
+        });
+    }
+    match read(alloc, bytes) {
+        Ok(forest) => theory_from(alloc, forest.as_slice()),
+        Err(ReadFault::Memory) => Err(TheoryFault::from(Memory)),
+        Err(_) => Err(TheoryFault {
+            form: 0,
+            code: TheoryCode::Read,
+        }),
+    }
+}
+
+/// The theory that a file spells. Its forms stand in this order:
+///
+/// - `(theory NAME)`
+/// - `(def NAME ((NAME SORT) ..) SORT TERM)`, any number of them: the term lies within the sort, names the parameters alone, and calls
+///   definitions that stand before it alone
+/// - `(input NAME SORT)`, up to 16 times
+/// - `(require TERM)`, a truth value over the inputs
+/// - `(axiom NAME ((NAME SORT) ..) (given TERM ..) CONCLUSION)`, any number of them, over the inputs and its variables: the conclusion
+///   is `(equal TERM TERM)` of terms with a common sort or `(holds TERM)` of a truth value, the conditions are truth values, and no
+///   binder stands in any of these terms
+/// - `(output NAME SORT)`
+/// - `(ensure TERM)`, a truth value over the inputs and the output
+///
+/// Definitions, inputs, axioms and the output have names that differ from one another and from the variables of the axioms before
+/// them. The variables of an axiom differ from one another, from its name and from all names before it. The parameters of a
+/// definition differ from one another.
+///
+/// # Errors
+///
+/// The first form that is refused, by its number from 1, or 0 where it is none, and the first of these codes that applies:
+///
+/// - `Large`, with form 0: the file has more than 4,194,304 bytes.
+/// - `Read`, with form 0: a byte is outside the alphabet, or brackets do not fit or nest more than 250 deep.
+/// - `Limit`: it is form 1,025, or begins as an input after 16 inputs, or is a definition whose calls go more than 16 deep.
+/// - `Form`: the form is not one that may stand there, or has not its shape, or there is none where one is due.
+/// - `Name`: a word that is to be declared is no name, or stands where it must differ.
+/// - `Cycle`: a definition calls itself or one of a later form.
+/// - `Sort`: a sort that is declared is not allowed, or a term breaks a rule above or has no sort.
+/// - `Memory`, with form 0: memory is wanting. It may come in place of any other answer.
+///
+/// `Proof` does not come: laws are refused as `Form`.
+#[tactic(auto, using(crate::proofs::Laws::read_result))]
+pub fn read_theory(alloc: Global, bytes: &[u8]) -> Result<Theory, TheoryFault>
+    ensures reading { Reads plain_theory result (theory_reading bytes.now) }
+    ensures theory { IfOk result (λ t. IsTheory (plain_theory t)) }
+{
+    read_file(alloc, bytes)
+}
+
+/// What holds of each theory that is read, as the contract of a function that does nothing.
+pub fn read_theories()
+    ensures { ReadTheories }
+{}

@@ -1,5 +1,0 @@
-use Rattle.std.proofs.Common.{length}
-use Rattle.kid_top.proofs.theory.+after_inputs.Given as goal
-
-abbrev pub decreases-after_inputs : goal.decreases-after_inputs
-decreases-after_inputs l = length l.forms.now
