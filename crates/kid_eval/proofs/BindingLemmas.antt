@@ -1,22 +1,20 @@
 -- What binders make of their bodies' values, a member at a time.
-use Rattle.std.proofs.Common.{◌≡◌, ℕ, ◌+◌, ◌<◌, ◌≤◌, zero, suc, ℤ, ◌+ℤ◌, Bool, true, false, List, [], ◌∷◌, ◌++◌, cond, map, length, drop, get_or, refl, sym, ap, ◌∙◌, subst, arith, append_assoc}
+use Rattle.std.proofs.Common.{◌≡◌, ℕ, ◌+◌, ◌<◌, zero, suc, ℤ, ◌+ℤ◌, Bool, true, false, List, [], ◌∷◌, ◌++◌, cond, map, length, drop, get_or, refl, sym, ap, ◌∙◌, subst, arith, append_assoc}
 use Rattle.std.specs.Prelude.{not, ◌&&◌, ◌||◌, filter}
 use Rattle.kid_value.proofs.SortLemmas.{and_parts}
 use Rattle.kid_term.specs.Small.{is_small, sums_small}
 use Rattle.std.specs.List.{list_all, list_any}
-use Rattle.std.specs.declared.cmp.Ordering.{Ordering}
-use Rattle.std.specs.declared.cmp.Ordering.TheVariants.{Less, Equal, Greater}
+use Rattle.std.specs.declared.cmp.Ordering.TheVariants.{Greater}
 use Rattle.std.specs.Ordering.{ordering_reverse}
 use Rattle.std.proofs.lemmas.List.{map-append}
 use Rattle.std.proofs.lemmas.Int.{ints as int_rules}
 use Rattle.kid_value.specs.PlainValue.{PlainValue, int}
 use Rattle.kid_value.specs.Rows.{truth_of, number_of, total}
 use Rattle.kid_value.specs.ValueOrder.{value_cmp, Before}
-use Rattle.kid_value.specs.ValueSet.{AllAfter, Ascends, put, put_by, union, set_of}
+use Rattle.kid_value.specs.ValueSet.{AllAfter, Ascends, put, put_by, union}
 use Rattle.kid_value.specs.ValueView.{plain}
 use Rattle.kid_value.specs.declared.value.Value.{Value}
 use Rattle.kid_value.proofs.ValueOrderLaws.{value_cmp-total}
-use Rattle.kid_value.proofs.ValueSetLaws.{AllAfter-before}
 use Rattle.kid_eval.specs.Binding.{is_found, kept}
 
 -- a value that comes after those of a set stands at its end

@@ -1,23 +1,39 @@
 -- The name that was put last comes first.
-use Rattle.std.proofs.Common.{◌≡◌, ℕ, Bool, true, false, List, [], ◌∷◌, ◌++◌, map, length, refl, sym, ap, ◌∙◌}
+use Rattle.std.proofs.Common.{◌≡◌, ℕ, ◌+◌, true, false, List, [], ◌∷◌, ◌++◌, map, length, min, suc, refl, sym, ap, ◌∙◌}
 use Rattle.std.specs.Prelude.{reverse}
-use Rattle.std.proofs.lemmas.List.{map-append, reverse-append, length-map, length-reverse}
+use Rattle.std.proofs.lemmas.List.{map-append, reverse-append, length-map, length-reverse, length-append}
+use Rattle.std.proofs.Math.Nat.{zero-min, min-zero, suc-min-suc}
+use Rattle.kid_value.specs.PlainValue.{PlainValue}
 use Rattle.kid_value.specs.ValueView.{plain}
+use Rattle.kid_value.specs.NameView.{plain_name}
 use Rattle.kid_value.specs.declared.value.Value.{Value}
-use Rattle.kid_term.specs.Names.{same_name}
-use Rattle.kid_term.specs.Eval.{value_at}
+use Rattle.kid_value.specs.declared.sort.Sort.{Sort}
+use Rattle.kid_term.specs.Names.{same_name, Names}
+use Rattle.kid_term.specs.Eval.{Env, value_at, bound}
 use Rattle.kid_eval.specs.EnvView.{plain_binding}
+use Rattle.kid_eval.specs.declared.env.Binding.{Binding}
 
-pub pushed_first : (all earlier : List (List ℕ × Value)) (b : List ℕ × Value) → all ≡ earlier ++ b ∷ [] → reverse (map plain_binding all) ≡ plain_binding b ∷ reverse (map plain_binding earlier)
-pushed_first all earlier b e =
-    ap (λ z. reverse (map plain_binding z)) e ∙ ap reverse (map-append plain_binding earlier (b ∷ [])) ∙ reverse-append (map plain_binding earlier) (plain_binding b ∷ [])
+pub pushed_first : (all earlier : List Binding) (b : Binding) (outer : Env) → all ≡ earlier ++ b ∷ [] → reverse (map plain_binding all) ++ outer ≡ plain_binding b ∷ reverse (map plain_binding earlier) ++ outer
+pushed_first all earlier b outer e =
+    ap (λ z. reverse (map plain_binding z) ++ outer) e ∙ ap (λ z. reverse z ++ outer) (map-append plain_binding earlier (b ∷ []))
+    ∙ ap (λ z. z ++ outer) (reverse-append (map plain_binding earlier) (plain_binding b ∷ []))
 
-pub latest_here : (all earlier : List (List ℕ × Value)) (b : List ℕ × Value) (x : List ℕ) → all ≡ earlier ++ b ∷ [] → same_name x b.0 ≡ true → value_at x (reverse (map plain_binding all)) ≡ plain b.1
-latest_here all earlier b x e h = ap (value_at x) (pushed_first all earlier b e) ∙ rw h refl
+pub latest_here : (all earlier : List Binding) (b : Binding) (x : List ℕ) (outer : Env) → all ≡ earlier ++ b ∷ [] → same_name x b.name.now ≡ true
+    → value_at x (reverse (map plain_binding all) ++ outer) ≡ plain b.value
+latest_here all earlier b x outer e h = ap (value_at x) (pushed_first all earlier b outer e) ∙ rw h refl
 
-pub latest_earlier : (all earlier : List (List ℕ × Value)) (b : List ℕ × Value) (x : List ℕ) → all ≡ earlier ++ b ∷ [] → same_name x b.0 ≡ false
-    → value_at x (reverse (map plain_binding all)) ≡ value_at x (reverse (map plain_binding earlier))
-latest_earlier all earlier b x e h = ap (value_at x) (pushed_first all earlier b e) ∙ rw h refl
+pub latest_earlier : (all earlier : List Binding) (b : Binding) (x : List ℕ) (outer : Env) → all ≡ earlier ++ b ∷ [] → same_name x b.name.now ≡ false
+    → value_at x (reverse (map plain_binding all) ++ outer) ≡ value_at x (reverse (map plain_binding earlier) ++ outer)
+latest_earlier all earlier b x outer e h = ap (value_at x) (pushed_first all earlier b outer e) ∙ rw h refl
 
-pub length_env : (items : List (List ℕ × Value)) → length (reverse (map plain_binding items)) ≡ length items
-length_env items = simp (length-reverse, length-map)
+length-bound : (ns : Names) (vs : List PlainValue) → length (bound ns vs) ≡ min (length ns) (length vs)
+length-bound [] vs = sym (zero-min (length vs))
+length-bound (n ∷ ns) [] = sym (min-zero (suc (length ns)))
+length-bound (n ∷ ns) (v ∷ vs) = ap suc (length-bound ns vs) ∙ sym (suc-min-suc (length ns) (length vs))
+
+pub length_env : (items : List Binding) (names : List (List ℕ × Sort)) (values : List Value)
+    → length (reverse (map plain_binding items) ++ bound (map plain_name names) (map plain values)) ≡ length items + min (length names) (length values)
+length_env items names values =
+    length-append (reverse (map plain_binding items)) (bound (map plain_name names) (map plain values))
+    ∙ (λ i. (length-reverse (map plain_binding items) ∙ length-map items plain_binding) i + length-bound (map plain_name names) (map plain values) i)
+    ∙ (λ i. length items + min (length-map names plain_name i) (length-map values plain i))

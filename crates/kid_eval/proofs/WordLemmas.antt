@@ -1,5 +1,5 @@
 -- An operator on words and rows takes one argument to four.
-use Rattle.std.proofs.Common.{◌≡◌, ◌<◌, ◌≤◌, ℕ, false, List, [], ◌∷◌, map, length, refl, arith}
+use Rattle.std.proofs.Common.{◌≡◌, ◌<◌, ◌≤◌, false, List, [], ◌∷◌, map, length, refl, arith}
 use Rattle.kid_value.specs.PlainValue.{PlainValue, bool}
 use Rattle.kid_term.specs.WordRows.{word_value}
 use Rattle.kid_term.specs.declared.operator.WordOp.{WordOp}

@@ -2,7 +2,7 @@
 use Rattle.std.specs.Prelude.{ℕ, List}
 use Rattle.kid_value.specs.PlainValue.{PlainValue}
 use Rattle.kid_value.specs.ValueView.{plain}
-use Rattle.kid_value.specs.declared.value.Value.{Value}
+use Rattle.kid_eval.specs.declared.env.Binding.{Binding}
 
-abbrev pub plain_binding : List ℕ × Value → List ℕ × PlainValue
-plain_binding b = (b.0, plain b.1)
+abbrev pub plain_binding : Binding → List ℕ × PlainValue
+plain_binding b = (b.name.now, plain b.value)

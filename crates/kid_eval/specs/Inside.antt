@@ -1,12 +1,13 @@
 -- The values of a program's terms in a scope, and whether they stay small.
 use Rattle.std.specs.Prelude.{ℕ, Bool, List, ◌∷◌, map}
 use Rattle.kid_value.specs.PlainValue.{PlainValue}
-use Rattle.kid_term.specs.PlainTerm.{term_row}
+use Rattle.kid_term.specs.PlainTerm.{op, app, term_row}
 use Rattle.kid_term.specs.TermView.{plain_term}
 use Rattle.kid_term.specs.DefView.{plain_def}
 use Rattle.kid_term.specs.Eval.{eval, evals, calls_of}
 use Rattle.kid_term.specs.Small.{stays_small, all_stay_small, checks_of}
 use Rattle.kid_term.specs.declared.Term.{Term}
+use Rattle.kid_term.specs.declared.operator.Op.{Op}
 use Rattle.kid_term.specs.declared.definition.Def.{Def}
 use Rattle.kid_eval.specs.declared.scope.Scope.{Scope}
 use Rattle.kid_eval.specs.ScopeView.{env_of}
@@ -29,3 +30,8 @@ all_small_in defs scope ts = all_stay_small (calls_of (map plain_def defs)) (che
 
 abbrev pub small_with : List Def → Scope → List ℕ → Term → PlainValue → Bool
 small_with defs scope x t v = stays_small (calls_of (map plain_def defs)) (checks_of (map plain_def defs)) ((x, v) ∷ env_of scope) (plain_term t)
+
+-- an operator at the terms
+abbrev pub op_small_in : List Def → Scope → Op → List Term → Bool
+op_small_in defs scope o ts =
+    stays_small (calls_of (map plain_def defs)) (checks_of (map plain_def defs)) (env_of scope) (app (op o) (term_row (map plain_term ts)))

@@ -1,5 +1,5 @@
 -- Which definition a call opens.
-use Rattle.std.specs.Prelude.{◌≡◌, ℕ, ◌<◌, true, false, List}
+use Rattle.std.specs.Prelude.{◌≡◌, ℕ, ◌<◌, false, List}
 use Rattle.kid_value.specs.PlainValue.{PlainValue, bool}
 use Rattle.kid_term.specs.Names.{PlainDef}
 use Rattle.kid_term.specs.Eval.{calls_of, call_at, def_value}

@@ -1,41 +1,66 @@
-ghost use Rattle.std.specs.Prelude.{◌≡◌, ◌∷◌, [], OnOk, OnErr, false, MatchOption, map, reverse, length};
+ghost use Rattle.std.specs.Prelude.{◌≡◌, ◌∷◌, ◌++◌, [], OnOk, OnErr, false, MatchOption, map, reverse, length, drop};
 ghost use Rattle.kid_value.specs.PlainValue.{bool};
+ghost use Rattle.kid_value.specs.NameView.{plain_name};
 ghost use Rattle.kid_value.specs.ValueView.{plain};
-ghost use Rattle.kid_term.specs.Eval.{value_at};
+ghost use Rattle.kid_term.specs.Eval.{value_at, bound};
 ghost use Rattle.kid_eval.specs.EnvView.{plain_binding};
+ghost use Rattle.kid_eval.specs.ScopeView.{env_of};
 
+use crate::scope::Scope;
 use kid_term::substitute::is_same;
-use kid_value::{Memory, Text, Value};
+use kid_value::{Memory, Sort, Text, Value};
 use std::alloc::Global;
+use std::cmp;
 use std::marker::Model;
 
-/// Names with their values. Of two equal names the one that was put last counts.
+/// A name with its value.
 #[derive(Drop)]
-pub struct Env {
-    items: Vec<(Text, Value)>,
+pub struct Binding<'a> {
+    name: &'a Text,
+    value: Value,
 }
 
-impl Model for Env {
-    ghost use Rattle.std.specs.Prelude.{map, reverse};
-    ghost use Rattle.kid_term.specs.Eval.{Env as PlainEnv};
+/// Names with their values, the last put innermost, inside names that were lent with theirs. Of two equal names the inner
+/// one counts.
+#[derive(Drop)]
+pub struct Env<'a> {
+    items: Vec<Binding<'a>>,
+    names: &'a [(Text, Sort)],
+    values: &'a [Value],
+}
+
+impl<'a> Model for Env<'a> {
+    ghost use Rattle.std.specs.Prelude.{◌++◌, map, reverse};
+    ghost use Rattle.kid_value.specs.NameView.{plain_name};
+    ghost use Rattle.kid_value.specs.ValueView.{plain};
+    ghost use Rattle.kid_term.specs.Eval.{Env as PlainEnv, bound};
     ghost use Rattle.kid_eval.specs.EnvCode.{coded_env};
+    ghost use Rattle.kid_eval.specs.EnvView.{plain_binding};
 
     ghost Value = { PlainEnv };
 
     ghost coded = { coded_env };
 
-    ghost use Rattle.kid_eval.specs.EnvView.{plain_binding};
-
-    ghost view = { λ e. reverse (map plain_binding e.items.items) };
+    ghost view = { λ e. reverse (map plain_binding e.items.items) ++ bound (map plain_name e.names.now) (map plain e.values.now) };
 }
 
-impl Env {
+impl<'a> Env<'a> {
     /// No names. Takes no memory.
-    pub fn new(alloc: Global) -> Env
+    pub fn new(alloc: Global) -> Env<'a>
         ensures { result ≡ [] }
+    {
+        Env::over(alloc, &[], &[])
+    }
+
+    /// Names that are lent with their values, the first innermost: as many as there are both of names and of values. Takes no
+    /// memory.
+    pub fn over(alloc: Global, names: &'a [(Text, Sort)], values: &'a [Value]) -> Env<'a>
+        ensures { result ≡ bound (map plain_name names.now) (map plain values.now) }
     {
         Env {
             items: Vec::new(alloc),
+            names,
+            values,
         }
     }
 
@@ -45,20 +70,28 @@ impl Env {
     ///
     /// Fails where memory is wanting, and then changes nothing.
     #[tactic(auto, using(crate::proofs::EnvLemmas::pushed_first))]
-    pub fn push(&mut self, name: Text, value: Value) -> Result<(), Memory>
-        ensures ok { OnOk result (self.new ≡ (name, plain value) ∷ self.old) }
+    pub fn push(&mut self, name: &'a Text, value: Value) -> Result<(), Memory>
+        ensures ok { OnOk result (self.new ≡ (name.now, plain value) ∷ self.old) }
         ensures err { OnErr result (self.new ≡ self.old) }
     {
-        self.items.push((name, value))?;
+        self.items.push(Binding { name, value })?;
         Ok(())
     }
 
-    /// Takes away the name that was put last, with its value. None where there is none.
-    #[tactic(auto, using(crate::proofs::EnvLemmas::pushed_first))]
-    pub fn pop(&mut self) -> Option<(Text, Value)>
-        ensures { MatchOption result ((self.old ≡ []) × (self.new ≡ [])) (λ e. self.old ≡ (e.0, plain e.1) ∷ self.new) }
+    /// Takes away the innermost name with its value. Does nothing where there is none.
+    pub fn pop(&mut self)
+        ensures { self.new ≡ drop 1 self.old }
     {
-        self.items.pop()
+        if self.items.pop().is_some() {
+            return;
+        }
+        if let (Some((_, names)), Some((_, values))) = (
+            self.names.split_first(),
+            self.values.split_first(),
+        ) {
+            self.names = names;
+            self.values = values;
+        }
     }
 
     /// How many names there are.
@@ -66,27 +99,47 @@ impl Env {
     pub fn len(&self) -> usize
         ensures { result ≡ length self.now }
     {
-        self.items.len()
+        self.items.len() + cmp::min(self.names.len(), self.values.len())
     }
 
-    /// The value of a name. None only where the name has none.
-    pub(crate) fn look_up(&self, x: &Text) -> Option<&Value>
-        ensures { MatchOption result (value_at x.now self.now ≡ bool false) (λ v. plain v.now ≡ value_at x.now self.now) }
+    /// The names as a scope.
+    pub(crate) fn scope(&self) -> Scope<'_>
+        ensures { env_of result ≡ self.now }
     {
-        latest(self.items.as_slice(), x)
+        Scope::Names(self.items.as_slice(), self.names, self.values)
     }
 }
 
+/// The value of a name among those that were put, and else among those that were lent.
 #[tactic(auto, using(crate::proofs::EnvLemmas::latest_here, crate::proofs::EnvLemmas::latest_earlier))]
-fn latest<'a>(items: &'a [(Text, Value)], x: &Text) -> Option<&'a Value>
-    ensures { MatchOption result (value_at x.now (reverse (map plain_binding items.now)) ≡ bool false) (λ v. plain v.now ≡ value_at x.now (reverse (map plain_binding items.now))) }
+pub(crate) fn latest<'a>(
+    items: &'a [Binding<'a>],
+    names: &'a [(Text, Sort)],
+    values: &'a [Value],
+    x: &Text,
+) -> Option<&'a Value>
+    ensures { MatchOption result (value_at x.now (reverse (map plain_binding items.now) ++ bound (map plain_name names.now) (map plain values.now)) ≡ bool false) (λ v. plain v.now ≡ value_at x.now (reverse (map plain_binding items.now) ++ bound (map plain_name names.now) (map plain values.now))) }
 {
     match items.split_last() {
-        None => None,
-        Some((binding, earlier)) => if is_same(x, &binding.0) {
-            Some(&binding.1)
+        None => given(names, values, x),
+        Some((binding, earlier)) => if is_same(x, binding.name) {
+            Some(&binding.value)
         } else {
-            latest(earlier, x)
+            latest(earlier, names, values, x)
         },
+    }
+}
+
+/// The value that stands at the place of the name.
+fn given<'a>(names: &[(Text, Sort)], values: &'a [Value], x: &Text) -> Option<&'a Value>
+    ensures { MatchOption result (value_at x.now (bound (map plain_name names.now) (map plain values.now)) ≡ bool false) (λ v. plain v.now ≡ value_at x.now (bound (map plain_name names.now) (map plain values.now))) }
+{
+    match (names.split_first(), values.split_first()) {
+        (Some((name, names)), Some((value, values))) => if is_same(x, &name.0) {
+            Some(value)
+        } else {
+            given(names, values, x)
+        },
+        _ => None,
     }
 }

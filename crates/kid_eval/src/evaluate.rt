@@ -1,23 +1,27 @@
-ghost use Rattle.std.specs.Prelude.{◌≡◌, true, IfOk, map};
+ghost use Rattle.std.specs.Prelude.{◌≡◌, ◌∷◌, [], true, IfOk, map};
 ghost use Rattle.std.specs.List.{list_all};
 ghost use Rattle.kid_value.specs.ValueView.{plain};
+ghost use Rattle.kid_value.specs.SortView.{plain_sort};
 ghost use Rattle.kid_value.specs.Rows.{truth_of, members_of};
 ghost use Rattle.kid_term.specs.TermView.{plain_term};
-ghost use Rattle.kid_term.specs.Eval.{eval as value, binder_value, calls_of, call_at};
-ghost use Rattle.kid_term.specs.Small.{StaysSmall, binder_small, check_at, checks_of};
+ghost use Rattle.kid_term.specs.Eval.{eval as value, op_value, cast_value, binder_value, calls_of, call_at};
+ghost use Rattle.kid_term.specs.LogicRows.{logic_value};
+ghost use Rattle.kid_term.specs.Small.{StaysSmall, is_small, op_small, binder_small, check_at, checks_of};
 ghost use Rattle.kid_term.specs.DefView.{plain_def};
 ghost use Rattle.kid_eval.specs.ScopeView.{plain_seen};
 ghost use Rattle.kid_eval.specs.Binding.{is_found};
-ghost use Rattle.kid_eval.specs.Inside.{value_in, values_in, value_with, small_in, all_small_in, small_with};
+ghost use Rattle.kid_eval.specs.Inside.{value_in, values_in, value_with, small_in, all_small_in, op_small_in, small_with};
 
 use crate::binder::{image, is_true, kept, members, total};
 use crate::cast::cast;
 use crate::env::Env;
+use crate::logic::truth;
 use crate::opened::opened;
 use crate::row::row;
 use crate::scope::{Scope, Seen, lent, seen_value};
-use kid_term::{Binder, Def, Defs, Head, Literal, Term};
-use kid_value::{Memory, Text, Value};
+use crate::terms::{couple, single, triple};
+use kid_term::{Binder, Def, Defs, Head, Literal, LogicOp, Op, Term};
+use kid_value::{Memory, Sort, Text, Value};
 use std::alloc::Global;
 
 /// The value of a term: each name's value is the one that the environment has, and each call is
@@ -33,7 +37,8 @@ pub fn eval(alloc: Global, defs: &Defs, env: &Env, term: &Term) -> Result<Value,
     requires { StaysSmall defs.now env.now (plain_term term.now) }
     ensures { IfOk result (λ v. plain v ≡ value (calls_of defs.now) env.now (plain_term term.now)) }
 {
-    value_of(alloc, defs.items(), &Scope::Names(env), term)
+    let scope = env.scope();
+    value_of(alloc, defs.items(), &scope, term)
 }
 
 #[cycle(eval)]
@@ -50,15 +55,13 @@ fn value_of<'a>(
         Term::Var(x) => seen_value(&lent(scope, x)).copy(alloc),
         Term::Lit(Literal::Int(n)) => Ok(Value::Int(*n)),
         Term::Lit(Literal::Bool(b)) => Ok(Value::Bool(*b)),
-        Term::App(head, args) => {
+        Term::App(Head::Op(op), args) => operate(alloc, defs, scope, *op, args.items()),
+        Term::App(Head::Call(f), args) => {
             let values = see_all(alloc, defs, scope, args.items())?;
-            match head {
-                Head::Op(op) => row(alloc, *op, values),
-                // Lent anew, as the values live less long than the definitions.
-                Head::Call(f) => call(alloc, &*defs, f, &values),
-                Head::Cast(sort) => cast(alloc, sort, values),
-            }
+            // Lent anew, as the values live less long than the definitions.
+            call(alloc, &*defs, f, &values)
         }
+        Term::App(Head::Cast(sort), args) => convert(alloc, defs, scope, sort, args.items()),
         Term::Bind(binder, x, set, body) => {
             let set = see(alloc, defs, scope, set.get())?;
             bind(
@@ -71,6 +74,138 @@ fn value_of<'a>(
                 body.get(),
             )
         }
+    }
+}
+
+/// What an operator gives at the values of terms. Of the last two terms of `if` one alone is evaluated, and the second of `and`
+/// only where the first is true.
+#[cycle(eval)]
+fn operate<'a>(
+    alloc: Global,
+    defs: &'a [Def],
+    scope: &'a Scope<'a>,
+    op: Op,
+    terms: &'a [Term],
+) -> Result<Value, Memory>
+    requires { op_small_in defs.now scope.now op terms.now ≡ true }
+    ensures { IfOk result (λ v. plain v ≡ op_value op (values_in defs.now scope.now terms.now)) }
+{
+    if let (Op::Logic(LogicOp::And), Some((a, b))) = (op, couple(terms)) {
+        return both(alloc, defs, scope, a, b);
+    }
+    if let Some((a, b)) = couple(terms) {
+        return binary(alloc, defs, scope, op, a, b);
+    }
+    if let Some(a) = single(terms) {
+        return unary(alloc, defs, scope, op, a);
+    }
+    if let (Op::Logic(LogicOp::If), Some((test, a, b))) = (op, triple(terms)) {
+        return choose(alloc, defs, scope, test, a, b);
+    }
+    let values = see_all(alloc, defs, scope, terms)?;
+    row(alloc, op, &values)
+}
+
+/// What an operator gives at the value of a term.
+#[cycle(eval)]
+fn unary<'a>(
+    alloc: Global,
+    defs: &'a [Def],
+    scope: &'a Scope<'a>,
+    op: Op,
+    a: &'a Term,
+) -> Result<Value, Memory>
+    requires part { small_in defs.now scope.now a.now ≡ true }
+    requires sums { op_small op (value_in defs.now scope.now a.now ∷ []) ≡ true }
+    requires small { is_small (op_value op (value_in defs.now scope.now a.now ∷ [])) ≡ true }
+    ensures { IfOk result (λ v. plain v ≡ op_value op (value_in defs.now scope.now a.now ∷ [])) }
+{
+    let x = see(alloc, defs, scope, a)?;
+    row(alloc, op, &[x])
+}
+
+/// What an operator gives at the values of two terms.
+#[cycle(eval)]
+fn binary<'a>(
+    alloc: Global,
+    defs: &'a [Def],
+    scope: &'a Scope<'a>,
+    op: Op,
+    a: &'a Term,
+    b: &'a Term,
+) -> Result<Value, Memory>
+    requires first { small_in defs.now scope.now a.now ≡ true }
+    requires second { small_in defs.now scope.now b.now ≡ true }
+    requires sums { op_small op (value_in defs.now scope.now a.now ∷ value_in defs.now scope.now b.now ∷ []) ≡ true }
+    requires small { is_small (op_value op (value_in defs.now scope.now a.now ∷ value_in defs.now scope.now b.now ∷ [])) ≡ true }
+    ensures { IfOk result (λ v. plain v ≡ op_value op (value_in defs.now scope.now a.now ∷ value_in defs.now scope.now b.now ∷ [])) }
+{
+    let x = see(alloc, defs, scope, a)?;
+    let y = see(alloc, defs, scope, b)?;
+    row(alloc, op, &[x, y])
+}
+
+/// The value of the one term as one of a sort. False where there is not just one.
+#[cycle(eval)]
+fn convert<'a>(
+    alloc: Global,
+    defs: &'a [Def],
+    scope: &'a Scope<'a>,
+    sort: &Sort,
+    terms: &'a [Term],
+) -> Result<Value, Memory>
+    requires { all_small_in defs.now scope.now terms.now ≡ true }
+    ensures { IfOk result (λ v. plain v ≡ cast_value (plain_sort sort.now) (values_in defs.now scope.now terms.now)) }
+{
+    let Some(term) = single(terms) else {
+        return Ok(Value::Bool(false));
+    };
+    let seen = see(alloc, defs, scope, term)?;
+    cast(alloc, sort, seen)
+}
+
+/// Whether both terms are true.
+#[cycle(eval)]
+#[tactic(auto, using(crate::proofs::LogicLemmas::and_both))]
+fn both<'a>(
+    alloc: Global,
+    defs: &'a [Def],
+    scope: &'a Scope<'a>,
+    a: &'a Term,
+    b: &'a Term,
+) -> Result<Value, Memory>
+    requires first { small_in defs.now scope.now a.now ≡ true }
+    requires second { small_in defs.now scope.now b.now ≡ true }
+    ensures { IfOk result (λ v. plain v ≡ logic_value LogicOp.And (value_in defs.now scope.now a.now ∷ value_in defs.now scope.now b.now ∷ [])) }
+{
+    let first = value_of(alloc, defs, scope, a)?;
+    if !is_true(&first) {
+        return Ok(Value::Bool(false));
+    }
+    let second = value_of(alloc, defs, scope, b)?;
+    Ok(Value::Bool(is_true(&second)))
+}
+
+/// The value of the first term where the test is true, and of the second where it is false.
+#[cycle(eval)]
+fn choose<'a>(
+    alloc: Global,
+    defs: &'a [Def],
+    scope: &'a Scope<'a>,
+    test: &'a Term,
+    a: &'a Term,
+    b: &'a Term,
+) -> Result<Value, Memory>
+    requires test { small_in defs.now scope.now test.now ≡ true }
+    requires first { small_in defs.now scope.now a.now ≡ true }
+    requires second { small_in defs.now scope.now b.now ≡ true }
+    ensures { IfOk result (λ v. plain v ≡ logic_value LogicOp.If (value_in defs.now scope.now test.now ∷ value_in defs.now scope.now a.now ∷ value_in defs.now scope.now b.now ∷ [])) }
+{
+    let value = value_of(alloc, defs, scope, test)?;
+    match truth(&value) {
+        Some(true) => value_of(alloc, defs, scope, a),
+        Some(false) => value_of(alloc, defs, scope, b),
+        None => Ok(Value::Bool(false)),
     }
 }
 

@@ -14,6 +14,7 @@ mod row;
 mod scope;
 mod seq;
 mod set;
+mod terms;
 #[cfg(test)]
 mod tests;
 mod word;

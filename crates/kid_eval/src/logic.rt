@@ -1,27 +1,24 @@
 //! The operators on truth values.
-ghost use Rattle.std.specs.Prelude.{◌≡◌, ◌∷◌, [], IfOk, map, length};
+ghost use Rattle.std.specs.Prelude.{◌≡◌, ◌∷◌, [], IfOk, map};
 ghost use Rattle.kid_value.specs.ValueView.{plain};
 ghost use Rattle.kid_term.specs.LogicRows.{logic_value};
 ghost use Rattle.kid_eval.specs.ScopeView.{plain_seen};
 ghost use Rattle.kid_eval.specs.Truth.{truth_in};
 
-use crate::scope::{Seen, into_owned, seen_value};
+use crate::scope::{Seen, seen_value};
 use kid_ops::logic;
 use kid_term::LogicOp;
 use kid_value::{Memory, Value};
 use std::alloc::Global;
 
 /// What an operator on truth values gives, and false at arguments of another kind or count.
-pub fn logic_row<'a>(alloc: Global, op: LogicOp, values: Vec<Seen<'a>>) -> Result<Value, Memory>
-    ensures { IfOk result (λ v. plain v ≡ logic_value op (map plain_seen values.entry.items)) }
+pub fn logic_row<'a>(alloc: Global, op: LogicOp, values: &[Seen<'a>]) -> Result<Value, Memory>
+    ensures { IfOk result (λ v. plain v ≡ logic_value op (map plain_seen values.now)) }
 {
-    match values.as_slice() {
+    match values {
         [p] => Ok(of_one(op, seen_value(p))),
         [p, q] => Ok(of_two(op, seen_value(p), seen_value(q))),
-        [_, _, _] => match op {
-            LogicOp::If => chosen(alloc, values),
-            _ => Ok(Value::Bool(false)),
-        },
+        [p, x, y] => of_three(alloc, op, seen_value(p), seen_value(x), seen_value(y)),
         _ => Ok(Value::Bool(false)),
     }
 }
@@ -47,20 +44,18 @@ fn of_two(op: LogicOp, p: &Value, q: &Value) -> Value
     }
 }
 
-/// The second of three values where the first is true, the third where it is false.
-#[tactic(auto, using(crate::proofs::LogicLemmas::second_chosen, crate::proofs::LogicLemmas::third_chosen, crate::proofs::LogicLemmas::none_chosen))]
-fn chosen<'a>(alloc: Global, mut values: Vec<Seen<'a>>) -> Result<Value, Memory>
-    requires { length values.items ≡ 3 }
-    ensures { IfOk result (λ v. plain v ≡ logic_value LogicOp.If (map plain_seen values.entry.items)) }
+fn of_three(alloc: Global, op: LogicOp, p: &Value, x: &Value, y: &Value) -> Result<Value, Memory>
+    ensures { IfOk result (λ v. plain v ≡ logic_value op (plain p.now ∷ plain x.now ∷ plain y.now ∷ [])) }
 {
-    match truth(seen_value(&values[0])) {
-        Some(true) => into_owned(alloc, values.swap_remove(1)),
-        Some(false) => into_owned(alloc, values.swap_remove(2)),
-        None => Ok(Value::Bool(false)),
+    match (op, p) {
+        (LogicOp::If, Value::Bool(true)) => x.copy(alloc),
+        (LogicOp::If, Value::Bool(false)) => y.copy(alloc),
+        _ => Ok(Value::Bool(false)),
     }
 }
 
-fn truth(v: &Value) -> Option<bool>
+/// The truth value that a value is.
+pub fn truth(v: &Value) -> Option<bool>
     ensures { result ≡ truth_in (plain v.now) }
 {
     match v {

@@ -18,18 +18,18 @@ use kid_value::{Memory, Value};
 use std::alloc::Global;
 
 /// What an operator gives, and false at arguments of another kind or count.
-pub fn row<'a>(alloc: Global, op: Op, values: Vec<Seen<'a>>) -> Result<Value, Memory>
-    requires sums { op_small op (map plain_seen values.items) ≡ true }
-    requires small { is_small (op_value op (map plain_seen values.items)) ≡ true }
-    ensures { IfOk result (λ v. plain v ≡ op_value op (map plain_seen values.entry.items)) }
+pub fn row<'a>(alloc: Global, op: Op, values: &[Seen<'a>]) -> Result<Value, Memory>
+    requires sums { op_small op (map plain_seen values.now) ≡ true }
+    requires small { is_small (op_value op (map plain_seen values.now)) ≡ true }
+    ensures { IfOk result (λ v. plain v ≡ op_value op (map plain_seen values.now)) }
 {
     match op {
         Op::Logic(op) => logic_row(alloc, op, values),
-        Op::Number(op) => Ok(number_row(op, &values)),
-        Op::Pair(op) => pair_row(alloc, op, &values),
+        Op::Number(op) => Ok(number_row(op, values)),
+        Op::Pair(op) => pair_row(alloc, op, values),
         Op::Set(op) => set_row(alloc, op, values),
         Op::Seq(op) => seq_row(alloc, op, values),
-        Op::Map(op) => map_row(alloc, op, &values),
-        Op::Word(op) => word_row(alloc, op, &values),
+        Op::Map(op) => map_row(alloc, op, values),
+        Op::Word(op) => word_row(alloc, op, values),
     }
 }

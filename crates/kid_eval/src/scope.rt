@@ -5,7 +5,7 @@ ghost use Rattle.kid_value.specs.NameView.{plain_name};
 ghost use Rattle.kid_term.specs.Eval.{value_at, bound};
 ghost use Rattle.kid_eval.specs.ScopeView.{env_of, plain_seen};
 
-use crate::env::Env;
+use crate::env::{Binding, latest};
 use kid_term::substitute::is_same;
 use kid_value::{Memory, Sort, Text, Value};
 use std::alloc::Global;
@@ -21,7 +21,7 @@ pub enum Seen<'a> {
 /// values of arguments, and the names of binders inside them.
 #[derive(Clone, Copy)]
 pub enum Scope<'a> {
-    Names(&'a Env),
+    Names(&'a [Binding<'a>], &'a [(Text, Sort)], &'a [Value]),
     Parameters(&'a [(Text, Sort)], &'a [Seen<'a>]),
     More(&'a Text, &'a Value, &'a Scope<'a>),
 }
@@ -51,7 +51,7 @@ pub fn look_up<'a>(scope: &'a Scope<'a>, x: &Text) -> Option<&'a Value>
     ensures { MatchOption result (value_at x.now (env_of scope.now) ≡ bool false) (λ v. plain v.now ≡ value_at x.now (env_of scope.now)) }
 {
     match *scope {
-        Scope::Names(env) => env.look_up(x),
+        Scope::Names(items, names, values) => latest(items, names, values, x),
         Scope::Parameters(parameters, values) => argument(parameters, values, x),
         Scope::More(y, v, rest) => if is_same(x, y) {
             Some(v)

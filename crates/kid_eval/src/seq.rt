@@ -6,30 +6,30 @@ ghost use Rattle.kid_term.specs.SeqRows.{seq_value};
 ghost use Rattle.kid_term.specs.Small.{op_small, items_small};
 ghost use Rattle.kid_eval.specs.ScopeView.{plain_seen};
 
-use crate::scope::{Seen, into_owned, seen_value};
+use crate::scope::{Seen, seen_value};
 use kid_ops::seq;
 use kid_term::{Op, SeqOp};
 use kid_value::{Memory, Value, Values};
 use std::alloc::Global;
 
 /// What an operator on sequences gives, and false at arguments of another kind or count.
-pub fn seq_row<'a>(alloc: Global, op: SeqOp, values: Vec<Seen<'a>>) -> Result<Value, Memory>
-    requires { op_small (Op.Seq op) (map plain_seen values.items) ≡ true }
-    ensures { IfOk result (λ v. plain v ≡ seq_value op (map plain_seen values.entry.items)) }
+pub fn seq_row<'a>(alloc: Global, op: SeqOp, values: &[Seen<'a>]) -> Result<Value, Memory>
+    requires { op_small (Op.Seq op) (map plain_seen values.now) ≡ true }
+    ensures { IfOk result (λ v. plain v ≡ seq_value op (map plain_seen values.now)) }
 {
     match op {
         SeqOp::Seq => collected(alloc, values),
-        _ => of_few(alloc, op, &values),
+        _ => of_few(alloc, op, values),
     }
 }
 
 /// The sequence of the values.
-fn collected<'a>(alloc: Global, values: Vec<Seen<'a>>) -> Result<Value, Memory>
-    ensures { IfOk result (λ v. plain v ≡ rows.sequence_of_values (map plain_seen values.entry.items)) }
+fn collected<'a>(alloc: Global, values: &[Seen<'a>]) -> Result<Value, Memory>
+    ensures { IfOk result (λ v. plain v ≡ rows.sequence_of_values (map plain_seen values.now)) }
 {
     let mut items = Values::new(alloc);
     for seen in values {
-        items.push(into_owned(alloc, seen)?)?;
+        items.push(seen_value(seen).copy(alloc)?)?;
     }
     Ok(Value::Seq(items))
 }

@@ -1,37 +1,47 @@
 //! The operators on sets.
 ghost use Rattle.std.specs.Prelude.{◌≡◌, ◌≢◌, ◌∷◌, [], true, IfOk, map};
 ghost use Rattle.kid_value.specs.ValueView.{plain};
+ghost use Rattle.kid_value.specs.ValueSet.{set_of};
 ghost use Rattle.kid_value.specs.Rows.Set as rows;
 ghost use Rattle.kid_term.specs.SetRows.{set_value};
 ghost use Rattle.kid_term.specs.Small.{op_small, members_small};
 ghost use Rattle.kid_eval.specs.ScopeView.{plain_seen};
 
-use crate::scope::{Seen, into_owned, seen_value};
+use crate::scope::{Seen, seen_value};
 use kid_ops::set;
 use kid_term::{Op, SetOp};
 use kid_value::{Members, Memory, Value};
 use std::alloc::Global;
 
 /// What an operator on sets gives, and false at arguments of another kind or count.
-pub fn set_row<'a>(alloc: Global, op: SetOp, values: Vec<Seen<'a>>) -> Result<Value, Memory>
-    requires { op_small (Op.Set op) (map plain_seen values.items) ≡ true }
-    ensures { IfOk result (λ v. plain v ≡ set_value op (map plain_seen values.entry.items)) }
+pub fn set_row<'a>(alloc: Global, op: SetOp, values: &[Seen<'a>]) -> Result<Value, Memory>
+    requires { op_small (Op.Set op) (map plain_seen values.now) ≡ true }
+    ensures { IfOk result (λ v. plain v ≡ set_value op (map plain_seen values.now)) }
 {
     match op {
         SetOp::Set => collected(alloc, values),
-        _ => of_few(alloc, op, &values),
+        _ => of_few(alloc, op, values),
     }
 }
 
 /// The set of the values.
-fn collected<'a>(alloc: Global, mut values: Vec<Seen<'a>>) -> Result<Value, Memory>
-    ensures { IfOk result (λ v. plain v ≡ rows.set_of_values (map plain_seen values.entry.items)) }
+fn collected<'a>(alloc: Global, values: &[Seen<'a>]) -> Result<Value, Memory>
+    ensures { IfOk result (λ v. plain v ≡ rows.set_of_values (map plain_seen values.now)) }
 {
-    let mut members = Members::new(alloc);
-    while let Some(seen) = values.pop() {
-        members.put(into_owned(alloc, seen)?)?;
-    }
+    let members = members_of(alloc, values)?;
     Ok(Value::Set(members))
+}
+
+fn members_of<'a>(alloc: Global, values: &[Seen<'a>]) -> Result<Members, Memory>
+    ensures { IfOk result (λ members. members ≡ set_of (map plain_seen values.now)) }
+{
+    let Some((seen, rest)) = values.split_first() else {
+        return Ok(Members::new(alloc));
+    };
+    let mut members = members_of(alloc, rest)?;
+    let member = seen_value(seen).copy(alloc)?;
+    members.put(member)?;
+    Ok(members)
 }
 
 fn of_few<'a>(alloc: Global, op: SetOp, values: &[Seen<'a>]) -> Result<Value, Memory>

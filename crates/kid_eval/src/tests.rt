@@ -38,14 +38,15 @@ fn seven_cast(alloc: Global) -> Result<Term, Memory>
 }
 
 // s is (set 1 2)
-fn one_and_two(alloc: Global) -> Result<Env, Memory>
+fn one_and_two<'a>(alloc: Global, s: &'a Text) -> Result<Env<'a>, Memory>
+    requires { s.now ≡ 115 ∷ [] }
     ensures { IfOk result (λ e. e ≡ (115 ∷ [], set (more (int (pos 1)) (more (int (pos 2)) none))) ∷ []) }
 {
     let mut members = Members::new(alloc);
     members.put(Value::Int(1))?;
     members.put(Value::Int(2))?;
     let mut env = Env::new(alloc);
-    env.push(Text::from_slice(alloc, b"s")?, Value::Set(members))?;
+    env.push(s, Value::Set(members))?;
     Ok(env)
 }
 
@@ -53,14 +54,15 @@ fn one_and_two(alloc: Global) -> Result<Env, Memory>
 fn over(alloc: Global, binder: Binder, body: Term) -> Result<Value, Memory>
     requires { StaysSmall [] ((115 ∷ [], set (more (int (pos 1)) (more (int (pos 2)) none))) ∷ []) (bind binder (120 ∷ []) (var (115 ∷ [])) (plain_term body)) }
 {
-    let s = BoxedTerm::new(alloc, Term::Var(Text::from_slice(alloc, b"s")?))?;
+    let s = Text::from_slice(alloc, b"s")?;
+    let set = BoxedTerm::new(alloc, Term::Var(s.copy(alloc)?))?;
     let term = Term::Bind(
         binder,
         Text::from_slice(alloc, b"x")?,
-        s,
+        set,
         BoxedTerm::new(alloc, body)?,
     );
-    eval(alloc, &Defs::new(alloc), &one_and_two(alloc)?, &term)
+    eval(alloc, &Defs::new(alloc), &one_and_two(alloc, &s)?, &term)
 }
 
 fn truth_over(alloc: Global, binder: Binder, body: Term) -> Result<Option<bool>, Memory>
@@ -165,14 +167,14 @@ fn pair_gives(alloc: Global, op: PairOp, values: &[&Value], want: &Value) -> Res
 fn set_gives(alloc: Global, op: SetOp, values: &[&Value], want: &Value) -> Result<bool, Memory>
     requires { op ≢ SetOp.Sum }
 {
-    let found = set_row(alloc, op, lent_all(alloc, values)?)?;
+    let found = set_row(alloc, op, &lent_all(alloc, values)?)?;
     Ok(cmp(&found, want).is_eq())
 }
 
 fn seq_gives(alloc: Global, op: SeqOp, values: &[&Value], want: &Value) -> Result<bool, Memory>
     requires { op ≢ SeqOp.Total }
 {
-    let found = seq_row(alloc, op, lent_all(alloc, values)?)?;
+    let found = seq_row(alloc, op, &lent_all(alloc, values)?)?;
     Ok(cmp(&found, want).is_eq())
 }
 
@@ -318,31 +320,39 @@ fn compares_maps(rt: HostRuntime) -> Result<(), Fail> {
 }
 
 // q is (seq 1 2)
-fn first_and_second(alloc: Global) -> Result<Env, Memory>
+fn first_and_second<'a>(alloc: Global, q: &'a Text) -> Result<Env<'a>, Memory>
+    requires { q.now ≡ 113 ∷ [] }
     ensures { IfOk result (λ e. e ≡ (113 ∷ [], seq (more (int (pos 1)) (more (int (pos 2)) none))) ∷ []) }
 {
     let mut items = Values::new(alloc);
     items.push(Value::Int(1))?;
     items.push(Value::Int(2))?;
     let mut env = Env::new(alloc);
-    env.push(Text::from_slice(alloc, b"q")?, Value::Seq(items))?;
+    env.push(q, Value::Seq(items))?;
     Ok(env)
 }
 
 // (sum s)
 fn sum_of_set(alloc: Global) -> Result<Value, Memory> {
+    let s = Text::from_slice(alloc, b"s")?;
     let mut args = Terms::new(alloc);
-    args.push(Term::Var(Text::from_slice(alloc, b"s")?))?;
+    args.push(Term::Var(s.copy(alloc)?))?;
     let term = Term::App(Head::Op(Op::Set(SetOp::Sum)), args);
-    eval(alloc, &Defs::new(alloc), &one_and_two(alloc)?, &term)
+    eval(alloc, &Defs::new(alloc), &one_and_two(alloc, &s)?, &term)
 }
 
 // (total q)
 fn total_of_sequence(alloc: Global) -> Result<Value, Memory> {
+    let q = Text::from_slice(alloc, b"q")?;
     let mut args = Terms::new(alloc);
-    args.push(Term::Var(Text::from_slice(alloc, b"q")?))?;
+    args.push(Term::Var(q.copy(alloc)?))?;
     let term = Term::App(Head::Op(Op::Seq(SeqOp::Total)), args);
-    eval(alloc, &Defs::new(alloc), &first_and_second(alloc)?, &term)
+    eval(
+        alloc,
+        &Defs::new(alloc),
+        &first_and_second(alloc, &q)?,
+        &term,
+    )
 }
 
 #[test]

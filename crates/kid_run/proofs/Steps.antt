@@ -1,5 +1,5 @@
 -- A step of a machine keeps what is still done, and leaves less.
-use Rattle.std.proofs.Common.{◌≡◌, ℕ, ◌+◌, ◌<◌, ◌≤◌, Bool, true, false, List, [], ◌∷◌, ◌++◌, length, Some, refl, sym, ap, ◌∙◌, cond, subst, arith, append_assoc}
+use Rattle.std.proofs.Common.{◌≡◌, ℕ, ◌+◌, ◌<◌, ◌≤◌, Bool, true, false, List, [], ◌∷◌, ◌++◌, length, drop, Some, refl, sym, ap, ◌∙◌, cond, subst, arith, append_assoc}
 use Rattle.std.specs.Prelude.{◌&&◌, nat_le}
 use Rattle.std.specs.List.{flat_map}
 use Rattle.std.proofs.lemmas.Bool.Decides.{nat_tests}
@@ -33,6 +33,10 @@ kept-more n e env le = let t : nat_le n (length env) ≡ true = grind (arith, na
 pub kept-few : (n : ℕ) (env : Env) → length env ≤ n → kept n env ≡ env
 kept-few n [] le = refl
 kept-few n (e ∷ env) le = let t : nat_le n (length env) ≡ false = grind (arith, nat_tests) in ap (λ b. cond b (kept n env) (e ∷ env)) t
+
+pub kept-drop : (n : ℕ) (env : Env) → n < length env → kept n (drop 1 env) ≡ kept n env
+kept-drop n [] lt = absurd (omega arith)
+kept-drop n (e ∷ env) lt = sym (kept-more n e env (omega (arith, lt)))
 
 pub kept-all : (env : Env) → kept (length env) env ≡ env
 kept-all env = kept-few (length env) env (omega arith)

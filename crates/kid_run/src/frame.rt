@@ -27,14 +27,14 @@ pub enum Frame<'a> {
     Rest(&'a [Stmt], usize),
     Each(Walk<'a>),
     /// The environment of the caller, for the frames below.
-    Caller(Env),
+    Caller(Env<'a>),
 }
 
 /// A run that has begun: the statements that are done next, in their environment, and what waits, of which the last is done
 /// first.
 #[derive(Drop)]
 pub struct Machine<'a> {
-    pub env: Env,
+    pub env: Env<'a>,
     pub stmts: &'a [Stmt],
     pub frames: Vec<Frame<'a>>,
 }
@@ -70,8 +70,8 @@ fn is_waited_for(frames: &[Frame]) -> bool
 }
 
 /// Lets the caller's environment wait, unless nothing of the caller does.
-pub fn keep_caller(frames: &mut Vec<Frame>, env: Env) -> Result<(), Memory>
-    ensures { OnOk result (plain_frames frames.new.items ≡ waiting env (plain_frames frames.old.items)) }
+pub fn keep_caller<'a>(frames: &mut Vec<Frame<'a>>, env: Env<'a>) -> Result<(), Memory>
+    ensures { OnOk result (plain_frames frames.new.items ≡ waiting env.entry (plain_frames frames.old.items)) }
 {
     if is_waited_for(frames) {
         frames.push(Frame::Caller(env))?;
@@ -84,6 +84,6 @@ pub fn cut(env: &mut Env, names: usize)
     ensures { env.new ≡ kept names env.old }
 {
     while env.len() > names {
-        let _ = env.pop();
+        env.pop();
     }
 }

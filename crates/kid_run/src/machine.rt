@@ -18,7 +18,6 @@ use crate::lines::value_line;
 use crate::moves::{Move, step};
 use crate::scope::{input_env, push_all};
 use crate::tally::Tally;
-use kid_eval::Env;
 use kid_prog::Program;
 use kid_value::{Memory, Value};
 use std::alloc::Global;
@@ -68,16 +67,15 @@ fn advance<'a>(
 fn enter<'a>(
     alloc: Global,
     program: &'a Program,
-    inputs: &[Value],
+    inputs: &'a [Value],
     values: Vec<Value>,
     machine: &mut Machine<'a>,
 ) -> Result<(), Memory>
-    requires inputs { length inputs.now ≡ length (plain_program program.now).inputs }
-    requires values { length values.items ≡ length (plain_program program.now).parameters }
+    requires { length values.items ≡ length (plain_program program.now).parameters }
     ensures { OnOk result (plain_machine machine.new ≡ entered (plain_program program.now) (bound (plain_program program.now).inputs (map plain inputs.now)) (map plain values.items) (plain_machine machine.old)) }
 {
-    let mut env = input_env(alloc, program, inputs)?;
-    push_all(alloc, &mut env, program.parameters.items(), values)?;
+    let mut env = input_env(alloc, program, inputs);
+    push_all(&mut env, program.parameters.items(), values)?;
     keep(&mut machine.frames, machine.stmts, machine.env.len())?;
     let caller = mem::replace(&mut machine.env, env);
     keep_caller(&mut machine.frames, caller)?;
@@ -85,27 +83,24 @@ fn enter<'a>(
     Ok(())
 }
 
-/// Runs a program at an input that meets the input condition, with so much fuel. The environment is that of the inputs.
+/// Runs a program at an input that meets the input condition, with so much fuel.
 ///
 /// # Errors
 ///
 /// Fails only where memory is wanting.
-pub fn run_at(
+pub fn run_at<'a>(
     alloc: Global,
-    program: &Program,
-    inputs: &[Value],
-    env: Env,
+    program: &'a Program,
+    inputs: &'a [Value],
     fuel: u64,
 ) -> Result<Ended, Memory>
     requires runs { IsRunnable (plain_program program.now) }
-    requires count { length inputs.now ≡ length (plain_program program.now).inputs }
-    requires env { env ≡ bound (plain_program program.now).inputs (map plain inputs.now) }
     requires fits { Fits (plain_program program.now).inputs (bound (plain_program program.now).inputs (map plain inputs.now)) }
     requires fuel { fuel < 2 ^ 63 }
     ensures { IfOk result (λ e. ending e.tally e.whole ≡ account [] 0 0 (run_of (plain_program program.now) (bound (plain_program program.now).inputs (map plain inputs.now)) fuel)) }
 {
     let mut machine = Machine {
-        env,
+        env: input_env(alloc, program, inputs),
         stmts: program.main.items(),
         frames: Vec::new(alloc),
     };

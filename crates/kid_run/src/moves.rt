@@ -65,7 +65,7 @@ fn assign<'a>(
     alloc: Global,
     program: &Program,
     machine: &mut Machine<'a>,
-    name: &Text,
+    name: &'a Text,
     term: &Term,
 ) -> Result<Move, Memory>
     requires runs { IsRunnable (plain_program program.now) }
@@ -73,7 +73,7 @@ fn assign<'a>(
     ensures { IfOk result (λ m. plain_move m (plain_machine machine.new) ≡ first (calls_of (plain_program program.now).definitions) (assign name.now (plain_term term.now)) (plain_machine machine.old)) }
 {
     let value = value_of(alloc, program, &machine.env, term)?;
-    machine.env.push(name.copy(alloc)?, value)?;
+    machine.env.push(name, value)?;
     Ok(Move::Goes)
 }
 
@@ -159,9 +159,7 @@ fn next_member<'a>(
     let Some(member) = members(&walk.set).get(walk.next) else {
         return Ok(Move::Goes);
     };
-    machine
-        .env
-        .push(walk.name.copy(alloc)?, member.copy(alloc)?)?;
+    machine.env.push(walk.name, member.copy(alloc)?)?;
     machine.stmts = walk.body;
     walk.next += 1;
     keep_members(&mut machine.frames, walk)?;

@@ -87,11 +87,11 @@ pub fn run_input(
     ensures lines { IfOk result (λ p. p.lines.items ≡ input_lines (plain_program program.now) fuel (bound (plain_program program.now).inputs input.now)) }
     ensures entry { IfOk result (λ p. p.entry ≡ input_entry (plain_program program.now) fuel (bound (plain_program program.now).inputs input.now)) }
 {
-    let env = input_env(alloc, program, input.items())?;
+    let env = input_env(alloc, program, input.items());
     let condition = value_of(alloc, program, &env, &program.condition)?;
     if !is_true(&condition) {
         return outside(alloc);
     }
-    let ended = run_at(alloc, program, input.items(), env, fuel)?;
+    let ended = run_at(alloc, program, input.items(), fuel)?;
     closed(alloc, ended, fuel)
 }

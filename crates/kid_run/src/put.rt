@@ -15,6 +15,7 @@ fn put_line<O: Sink>(alloc: Global, out: &mut O, line: &[u8]) -> Result<(), RunF
     ensures ok { OnOk result (O.written out.new ≡ option_map (λ w. w ++ line.now) (O.written out.old)) }
     ensures front { AppendsPrefix line.now (O.written out.old) (O.written out.new) }
     ensures failed { IsErrOf result RunFault.PutFailed → Rose (O.faults out.old) (O.faults out.new) }
+    ensures memory { IsErrOf result RunFault.Memory → O.written out.new ≡ O.written out.old }
     ensures later { O.faults out.old ≤ O.faults out.new }
 {
     match out.put(alloc, line) {

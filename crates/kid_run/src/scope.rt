@@ -1,5 +1,5 @@
 //! The environments of a run.
-ghost use Rattle.std.specs.Prelude.{◌≡◌, ◌++◌, IfOk, OnOk, map, length};
+ghost use Rattle.std.specs.Prelude.{◌≡◌, ◌++◌, OnOk, map, length};
 ghost use Rattle.kid_value.specs.NameView.{plain_name};
 ghost use Rattle.kid_value.specs.ValueView.{plain};
 ghost use Rattle.kid_term.specs.Eval.{bound};
@@ -10,21 +10,10 @@ use kid_prog::Program;
 use kid_value::{Memory, Sort, Text, Value};
 use std::alloc::Global;
 
-fn copies(alloc: Global, values: &[Value]) -> Result<Vec<Value>, Memory>
-    ensures { IfOk result (λ copied. map plain copied.items ≡ map plain values.now) }
-{
-    let mut copied = Vec::new(alloc);
-    for value in values {
-        copied.push(value.copy(alloc)?)?;
-    }
-    Ok(copied)
-}
-
 /// Puts names with their values inside the others, of which the first is innermost. There are as many values as names.
-pub fn push_all(
-    alloc: Global,
-    env: &mut Env,
-    names: &[(Text, Sort)],
+pub fn push_all<'a>(
+    env: &mut Env<'a>,
+    names: &'a [(Text, Sort)],
     mut values: Vec<Value>,
 ) -> Result<(), Memory>
     requires { length values.items ≡ length names.now }
@@ -35,23 +24,15 @@ pub fn push_all(
         let Some((name, earlier)) = rest.split_last() else {
             return Ok(());
         };
-        env.push(name.0.copy(alloc)?, value)?;
+        env.push(&name.0, value)?;
         rest = earlier;
     }
     Ok(())
 }
 
-/// The names of a program's inputs with these values, of which there are as many.
-pub fn input_env(alloc: Global, program: &Program, inputs: &[Value]) -> Result<Env, Memory>
-    requires { length inputs.now ≡ length (plain_program program.now).inputs }
-    ensures { IfOk result (λ env. env ≡ bound (plain_program program.now).inputs (map plain inputs.now)) }
+/// The names of a program's inputs, lent with these values. Takes no memory.
+pub fn input_env<'a>(alloc: Global, program: &'a Program, inputs: &'a [Value]) -> Env<'a>
+    ensures { result ≡ bound (plain_program program.now).inputs (map plain inputs.now) }
 {
-    let mut env = Env::new(alloc);
-    push_all(
-        alloc,
-        &mut env,
-        program.signature.inputs(),
-        copies(alloc, inputs)?,
-    )?;
-    Ok(env)
+    Env::over(alloc, program.signature.inputs(), inputs)
 }

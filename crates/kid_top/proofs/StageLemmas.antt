@@ -43,7 +43,7 @@ after_stage {Y = Y} (Some files) view x later r first rest e comes = subst (λ (
 
 -- ---- counts that rose after others
 
-rose_later : (a b c : ℕ) → a ≤ b → Rose b c → Rose a c
+pub rose_later : (a b c : ℕ) → a ≤ b → Rose b c → Rose a c
 rose_later a b c le rose = omega (arith, le, rose)
 
 pub derive_rose : (h : Option Held) (before mid now : Counts) (theory script : List ℕ) (t : Theory) → NeverFall before mid

@@ -15,6 +15,7 @@ use Rattle.kid_top.specs.Command.{Command, derive, solve, command_of}
 use Rattle.kid_top.specs.Outcome.{Work, saves, work_status, work_text, theory_stage, inputs_stage, script_program, run_work, solve_work, derive_work, work_of, outcome, Refuses}
 use Rattle.kid_top.specs.Printed.{Texts, Implements}
 use Rattle.kid_top.specs.Risen.{Counts, WorkRose}
+use Rattle.kid_top.specs.Saves.{NoneRose, SavesFront}
 
 -- ---- the work was done
 
@@ -164,3 +165,15 @@ result_status (Err why) = status_of why
 
 abbrev pub KeepsFilesBy : Option Command → Result ℕ Stop → Option Held → Option Held → Type 0
 KeepsFilesBy command result files after = KeepsFiles command (result_status result) files after
+
+-- nothing was saved, or the text of the derivation alone, or both texts
+abbrev pub SavesOwn : Result Work Stop → (derivation program : List ℕ) → Held → Held → Type 0
+SavesOwn o derivation program files after =
+    (after ≡ files)
+    ⊎ ((bytes : List ℕ) × (text : List ℕ) × (o ≡ Ok (saves derivation program bytes text)) × SavesFront derivation program bytes text (Some files) (Some after))
+
+-- so it is where no call on derive's two names failed
+abbrev pub KeepsWhole : Option Command → Counts → Counts → Option Held → Option Held → Type 0
+KeepsWhole (Some (derive theory script derivation program)) before now (Some files) (Some after) =
+    NoneRose derivation program before now → SavesOwn (work_of (derive theory script derivation program) files) derivation program files after
+KeepsWhole command before now files after = ⊤

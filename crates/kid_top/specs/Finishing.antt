@@ -8,7 +8,7 @@ use Rattle.kid_run.specs.declared.report.Outcome.TheVariants.{Done, Fuel, Outsid
 use Rattle.kid_run.specs.declared.report.RunEntry.{RunEntry}
 use Rattle.kid_top.specs.Outcome.{Work, runs, saves, work_status, work_text}
 use Rattle.kid_top.specs.Risen.{Counts}
-use Rattle.kid_top.specs.Saves.{SavesBoth, SavesInOrder}
+use Rattle.kid_top.specs.Saves.{SavesBoth, SavesInOrder, NoneRose, SavesFront}
 
 abbrev pub ran_out : Outcome → Bool
 ran_out Done = false
@@ -44,3 +44,9 @@ FinishFront w old new = AppendsPrefix (work_text w) old new
 abbrev pub FinishKeeps : Work → Option Held → Option Held → Type 0
 FinishKeeps (runs p xs fuel) files after = after ≡ files
 FinishKeeps (saves derivation program bytes text) files after = SavesInOrder derivation program bytes files after
+
+-- what is saved where no call on the two names failed
+abbrev pub FinishWhole : Work → Counts → Counts → Option Held → Option Held → Type 0
+FinishWhole (runs p xs fuel) before now files after = after ≡ files
+FinishWhole (saves derivation program bytes text) before now files after =
+    NoneRose derivation program before now → SavesFront derivation program bytes text files after

@@ -1,6 +1,8 @@
 -- What saving does to the files that are held.
 use Rattle.std.specs.Prelude.{◌≡◌, ◌≢◌, ℕ, List, Option, Some, None, option_map, ◌⊎◌, ⊤}
+use Rattle.kid_outer.specs.Causes.{Rose}
 use Rattle.kid_outer.specs.Held.{Held, update}
+use Rattle.kid_top.specs.Risen.{Counts}
 use Rattle.kid_top.specs.declared.stop.Stop.{Stop}
 use Rattle.kid_top.specs.declared.stop.Stop.TheVariants as stop
 
@@ -27,3 +29,11 @@ SavesInOrder derivation program bytes (Some files) (Some after) = KeptInOrder de
 SavesInOrder derivation program bytes None None = ⊤
 SavesInOrder derivation program bytes (Some files) None = ⊥
 SavesInOrder derivation program bytes None (Some after) = ⊥
+
+-- no call on either name failed
+abbrev pub NoneRose : (derivation program : List ℕ) → Counts → Counts → Type 0
+NoneRose derivation program before now = (Rose (before derivation) (now derivation) → ⊥) × (Rose (before program) (now program) → ⊥)
+
+-- nothing was saved, or the derivation alone, or both
+abbrev pub SavesFront : (derivation program bytes text : List ℕ) → Option Held → Option Held → Type 0
+SavesFront derivation program bytes text old new = (new ≡ old) ⊎ (SavesOne derivation bytes old new ⊎ SavesBoth derivation program bytes text old new)

@@ -5,7 +5,7 @@ ghost use Rattle.kid_prog.specs.Rules.{IsRunnable};
 ghost use Rattle.kid_run.specs.InputReading.{envs_of, AllFit};
 ghost use Rattle.kid_run.specs.Reporting.{report_of};
 ghost use Rattle.kid_top.specs.WorkView.{plain_work, IsReady};
-ghost use Rattle.kid_top.specs.Finishing.{Finishes, FinishRose, FinishFront, FinishKeeps, ran_out, report_status};
+ghost use Rattle.kid_top.specs.Finishing.{Finishes, FinishRose, FinishFront, FinishKeeps, FinishWhole, ran_out, report_status};
 ghost use Rattle.kid_top.specs.Saves.{IsLateStop};
 
 use crate::save::save_both;
@@ -50,6 +50,7 @@ pub fn finish<S: Store, O: Sink>(
     ensures failed { IsErrOf result Stop.Failed → FinishRose (plain_work work.now) (S.faults store.old) (S.faults store.new) (O.faults out.old) (O.faults out.new) }
     ensures front { FinishFront (plain_work work.now) (O.written out.old) (O.written out.new) }
     ensures kept { FinishKeeps (plain_work work.now) (S.held store.old) (S.held store.new) }
+    ensures whole { FinishWhole (plain_work work.now) (S.faults store.old) (S.faults store.new) (S.held store.old) (S.held store.new) }
 {
     match work {
         Work::Run {

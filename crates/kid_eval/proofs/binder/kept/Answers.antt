@@ -1,7 +1,6 @@
-use Rattle.std.proofs.Common.{◌≡◌, ◌<◌, true, false, length, sym, ap, ◌∙◌, arith}
+use Rattle.std.proofs.Common.{◌≡◌, ◌<◌, length, sym, ap, ◌∙◌, arith}
 use Rattle.kid_value.specs.ValueView.{plain}
 use Rattle.kid_value.specs.ValueSet.{put}
-use Rattle.kid_value.specs.Rows.{truth_of}
 use Rattle.kid_eval.proofs.BindingLemmas.{kept_more, kept_without}
 use Rattle.kid_eval.proofs.binder.kept.Goals as goal
 use Rattle.kid_eval.proofs.binder.kept.Goals.{then-is_true+in_ok-copy+in_ok-put, else-is_true}

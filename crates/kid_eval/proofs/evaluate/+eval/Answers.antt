@@ -1,19 +1,20 @@
-use Rattle.std.proofs.Common.{◌≡◌, ◌∷◌, ◌+◌, ◌*◌, ◌<◌, true, false, List, map, sym, ap, ◌∙◌, subst, arith}
+use Rattle.std.proofs.Common.{◌≡◌, ◌∷◌, map, sym, ap, ◌∙◌, subst, arith}
 use Rattle.std.specs.Prelude.{IfOk, not, filter}
-use Rattle.kid_value.specs.PlainValue.{PlainValue, bool}
+use Rattle.kid_value.specs.PlainValue.{bool}
 use Rattle.kid_value.specs.ValueView.{plain}
+use Rattle.kid_value.specs.SortView.{plain_sort}
 use Rattle.kid_value.specs.Rows.{truth_of, members_of, set_from}
 use Rattle.kid_term.specs.PlainTerm.{term_row}
 use Rattle.kid_term.specs.TermView.{plain_term}
 use Rattle.kid_term.specs.DefView.{plain_def}
-use Rattle.kid_term.specs.Cost.{cost, costs_of}
-use Rattle.kid_term.specs.Eval.{op_value, eval, evals, binder_value, calls_of}
+use Rattle.kid_term.specs.Cost.{cost, cost_all, costs_of}
+use Rattle.kid_term.specs.Eval.{op_value, eval, binder_value, calls_of}
 use Rattle.kid_term.specs.Small.{is_small, checks_of}
 use Rattle.kid_eval.specs.Binding.{kept}
-use Rattle.kid_eval.specs.Inside.{value_in, value_with}
+use Rattle.kid_eval.specs.Inside.{value_with}
 use Rattle.kid_eval.specs.ScopeView.{plain_seen, env_of}
 use Rattle.kid_eval.proofs.BindingLemmas.{all_found, some_found, kept_passing}
-use Rattle.kid_eval.proofs.SmallLemmas.{small_at, small_bind, small_op, cost-lt-all}
+use Rattle.kid_eval.proofs.SmallLemmas.{small_at, small_bind, small_op, small_one, small_two, small_three, cast_many, cost-lt-all}
 use Rattle.kid_eval.proofs.evaluate.+eval.Goals as goal
 
 pub bind-returns-in_ok-fails-in-All : goal.bind-returns-in_ok-fails-in-All
@@ -45,15 +46,6 @@ see_all-see-requires t c = (
       c.t-item.is c.loop-t.invariant.small,
 )
 
-pub value_of-row-requires-clause-small : goal.value_of-row-requires-clause-small
-value_of-row-requires-clause-small t c =
-    let calls = calls_of (map plain_def c.args.defs.now) in
-    let env = env_of c.args.scope.now in
-    let values : map plain_seen c.in_ok-values-in-App.values.items ≡ evals calls env (term_row c.in-App.args)
-    = c.in_ok-values-in-App.ensures ∙ ap (λ z. evals calls env (term_row z)) c.items.ensures in
-    ap (λ z. is_small (op_value c.in-Op.op z)) values
-    ∙ small_op calls (checks_of (map plain_def c.args.defs.now)) env c.in-Op.op (term_row c.in-App.args) (rw c.in-Op.is at rw c.in-App.is at c.requires)
-
 pub value_of-see-requires : goal.value_of-see-requires
 value_of-see-requires t c =
     let s = small_bind (calls_of (map plain_def c.args.defs.now)) (checks_of (map plain_def c.args.defs.now)) (env_of c.args.scope.now) c.in-Bind.binder c.in-Bind.x c.in-Bind.set
@@ -73,3 +65,41 @@ value_of-returns-in_ok-set-in-Bind t c =
     ≡ binder_value c.in-Bind.binder (members_of (eval calls env c.in-Bind.set)) (λ v. eval calls ((c.in-Bind.x, v) ∷ env) c.in-Bind.body)
     = λ i. binder_value c.in-Bind.binder (members_of (e i)) (λ v. eval calls ((c.in-Bind.x, v) ∷ env) (f i)) in
     rw c.in-Bind.is (subst (λ z. IfOk c.bind.result (λ v. plain v ≡ z)) k c.bind.ensures)
+
+pub operate-binary-requires : goal.operate-binary-requires
+operate-binary-requires t c =
+    let defs = map plain_def c.args.defs.now in
+    let e = c.in-Some.ensures in
+    let s = small_two (calls_of defs) (checks_of defs) (env_of c.args.scope.now) c.args.op c.args.terms.now c.in-Some.a.now c.in-Some.b.now e c.requires in
+    (omega (arith, ap (λ z. cost_all (costs_of defs) (term_row (map plain_term z))) e), (s.first, (s.second, (s.sums, s.small))))
+
+pub operate-unary-requires : goal.operate-unary-requires
+operate-unary-requires t c =
+    let defs = map plain_def c.args.defs.now in
+    let e = c.in-Some-single.ensures in
+    let s = small_one (calls_of defs) (checks_of defs) (env_of c.args.scope.now) c.args.op c.args.terms.now c.in-Some-single.a.now e c.requires in
+    (omega (arith, ap (λ z. cost_all (costs_of defs) (term_row (map plain_term z))) e), (s.part, (s.sums, s.small)))
+
+pub operate-choose-requires : goal.operate-choose-requires
+operate-choose-requires t c =
+    let defs = map plain_def c.args.defs.now in
+    let at = c.in-Logic-If-Some in
+    let s = small_three (calls_of defs) (checks_of defs) (env_of c.args.scope.now) c.args.op c.args.terms.now at.test.now at.a.now at.b.now at.ensures c.requires in
+    (omega (arith, ap (λ z. cost_all (costs_of defs) (term_row (map plain_term z))) at.ensures), (s.test, (s.first, s.second)))
+
+pub operate-row-requires-clause-small : goal.operate-row-requires-clause-small
+operate-row-requires-clause-small t c =
+    let defs = map plain_def c.args.defs.now in
+    ap (λ z. is_small (op_value c.args.op z)) (ap (map plain_seen) c.deref.ensures.value ∙ c.in_ok-values.ensures)
+    ∙ small_op (calls_of defs) (checks_of defs) (env_of c.args.scope.now) c.args.op (term_row (map plain_term c.args.terms.now)) c.requires
+
+pub convert-returns-in_default : goal.convert-returns-in_default
+convert-returns-in_default t c =
+    sym (cast_many (calls_of (map plain_def c.args.defs.now)) (env_of c.args.scope.now) (plain_sort c.args.sort.now) c.args.terms.now c.in_default.ensures)
+
+pub operate-both-requires : goal.operate-both-requires
+operate-both-requires t c =
+    let defs = map plain_def c.args.defs.now in
+    let at = c.in-Logic-And-Some in
+    let s = small_two (calls_of defs) (checks_of defs) (env_of c.args.scope.now) c.args.op c.args.terms.now at.a.now at.b.now at.ensures c.requires in
+    (omega (arith, ap (λ z. cost_all (costs_of defs) (term_row (map plain_term z))) at.ensures), (s.first, s.second))

@@ -54,3 +54,28 @@ invariant-values_over-loop-v l =
       made : map plain l.values.items ++ map (value_with l.defs l.scope l.x l.body) (map plain (drop l.v-index l.members))
           ≡ map (value_with l.defs l.scope l.x l.body) (map plain l.members);
     }
+
+abbrev pub decreases-operate : goal.decreases-operate
+decreases-operate l = 4 * cost_all (costs_of (map plain_def l.defs.now)) (term_row (map plain_term l.terms.now)) + 2
+
+abbrev pub decreases-unary : goal.decreases-unary
+decreases-unary l = 4 * cost (costs_of (map plain_def l.defs.now)) (plain_term l.a.now) + 2
+
+abbrev pub decreases-binary : goal.decreases-binary
+decreases-binary l = 4 * (cost (costs_of (map plain_def l.defs.now)) (plain_term l.a.now) + cost (costs_of (map plain_def l.defs.now)) (plain_term l.b.now)) + 2
+
+abbrev pub decreases-both : goal.decreases-both
+decreases-both l = 4 * (cost (costs_of (map plain_def l.defs.now)) (plain_term l.a.now) + cost (costs_of (map plain_def l.defs.now)) (plain_term l.b.now)) + 2
+
+abbrev pub decreases-choose : goal.decreases-choose
+decreases-choose l =
+    4
+    * (
+    cost (costs_of (map plain_def l.defs.now)) (plain_term l.test.now)
+    + cost (costs_of (map plain_def l.defs.now)) (plain_term l.a.now)
+    + cost (costs_of (map plain_def l.defs.now)) (plain_term l.b.now)
+    )
+    + 2
+
+abbrev pub decreases-convert : goal.decreases-convert
+decreases-convert l = 4 * cost_all (costs_of (map plain_def l.defs.now)) (term_row (map plain_term l.terms.now)) + 2

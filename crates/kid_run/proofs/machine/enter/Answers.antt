@@ -15,7 +15,7 @@ returns c =
     let vs = map plain c.args.values.items in
     let x = bound p.inputs (map plain c.args.inputs.now) in
     let env : c.replace-caller.new.dest ≡ search_env p x vs
-    = c.replace-caller.ensures.after ∙ c.in_ok-push_all.ensures ∙ (λ i. bound (c.items.ensures i) vs ++ c.in_ok-env.ensures i) in
+    = c.replace-caller.ensures.after ∙ c.in_ok-push_all.ensures ∙ (λ i. bound (c.items.ensures i) vs ++ c.input_env-env.ensures i) in
     let kept : plain_frames c.keep.new.frames.items ≡ keeping (length m.env) (plain_stmts m.stmts.now) (plain_frames m.frames.items)
     = c.in_ok-keep.ensures ∙ ap (λ n. keeping n (plain_stmts m.stmts.now) (plain_frames m.frames.items)) c.len.ensures in
     let frames : plain_frames c.keep_caller.new.frames.items ≡ waiting m.env (keeping (length m.env) (plain_stmts m.stmts.now) (plain_frames m.frames.items))

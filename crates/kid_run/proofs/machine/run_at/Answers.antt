@@ -19,9 +19,9 @@ loop-tally-init c =
     let p = plain_program c.args.program.now in
     let x = bound p.inputs (map plain c.args.inputs.now) in
     let f = procedure p x c.args.fuel in
-    let e : plain_machine (record { env = c.args.env; stmts = c.items.result; frames = c.new.result }) ≡ machine x p.main []
-    = λ i. machine (c.requires.env i) (stmt_row (c.items.ensures i)) (plain_frames (c.new.ensures.items i)) in
-    let r = within c.args.fuel (doing (calls_of p.definitions) f (plain_machine (record { env = c.args.env; stmts = c.items.result; frames = c.new.result }))) in
+    let e : plain_machine (record { env = c.input_env.result; stmts = c.items.result; frames = c.new.result }) ≡ machine x p.main []
+    = λ i. machine (c.input_env.ensures i) (stmt_row (c.items.ensures i)) (plain_frames (c.new.ensures.items i)) in
+    let r = within c.args.fuel (doing (calls_of p.definitions) f (plain_machine (record { env = c.input_env.result; stmts = c.items.result; frames = c.new.result }))) in
     let t : told c.new-tally.result r ≡ account [] 0 0 r = λ i. account (c.new-tally.ensures.lines i) (c.new-tally.ensures.answers i) (c.new-tally.ensures.splits i) r in
     record {
       same = t ∙ ap (λ m. account [] 0 0 (within c.args.fuel (doing (calls_of p.definitions) f m))) e ∙ ap (account [] 0 0) (all-to_do p x c.args.fuel);

@@ -12,4 +12,4 @@ returns c =
     let l : drop w.next ms ≡ plain c.in-Some.member.now ∷ drop (w.next + 1) ms = left-first c.members.result.now ms w.next c.in-Some.member.now c.members.ensures (search rules) (search rules) in
     next-some w.names w.name.now (members_left w) (plain c.in-Some.member.now) (drop (w.next + 1) ms) (plain_stmts w.body.now) (plain_machine c.args.machine.now) c.push.new.self
     (plain_frames c.keep_members.new.frames.items) l
-    (c.in_ok-push.ensures.ok ∙ (λ i. (c.in_ok-copy.ensures i, c.in_ok-copy-2.ensures i) ∷ c.args.machine.now.env)) c.in_ok-keep_members.ensures
+    (c.in_ok-push.ensures.ok ∙ (λ i. (w.name.now, c.in_ok-copy.ensures i) ∷ c.args.machine.now.env)) c.in_ok-keep_members.ensures

@@ -17,24 +17,12 @@ use Rattle.kid_run.proofs.Scopes.{AreOfSorts-fit}
 use Rattle.kid_run.proofs.Steps.{condition-small}
 use Rattle.kid_run.proofs.printed.run_input.Goals as goal
 
-pub input_env-requires : goal.input_env-requires
-input_env-requires c =
-    let p = plain_program c.args.program.now in
-    let fit = AreOfSorts-fit p.inputs c.args.input.now c.requires.fits in
-    omega (arith, length-map c.items.result.now plain, ap length c.items.ensures.items, fit.0)
-
 pub value_of-requires : goal.value_of-requires
 value_of-requires c =
     let p = plain_program c.args.program.now in
     let fit = AreOfSorts-fit p.inputs c.args.input.now c.requires.fits in
-    subst (λ (env : Env). StaysSmall p.definitions env p.condition) (sym (c.in_ok-env.ensures ∙ ap (bound p.inputs) c.items.ensures.items))
+    subst (λ (env : Env). StaysSmall p.definitions env p.condition) (sym (c.input_env-env.ensures ∙ ap (bound p.inputs) c.items.ensures.items))
     (condition-small p c.requires.runs (bound p.inputs c.args.input.now) fit.1)
-
-pub run_at-requires-clause-count : goal.run_at-requires-clause-count
-run_at-requires-clause-count c =
-    let p = plain_program c.args.program.now in
-    let fit = AreOfSorts-fit p.inputs c.args.input.now c.requires.fits in
-    omega (arith, length-map c.items-2.result.now plain, ap length c.items-2.ensures.items, fit.0)
 
 pub run_at-requires-clause-fits : goal.run_at-requires-clause-fits
 run_at-requires-clause-fits c =
@@ -48,7 +36,7 @@ returns-clause-lines c =
     let x = bound p.inputs c.args.input.now in
     let holds : c.is_true.result ≡ true = search rules in
     let inside : is_inside p x ≡ true
-    = ap (λ (env : Env). truth_of (eval (calls_of p.definitions) env p.condition)) (sym (c.in_ok-env.ensures ∙ ap (bound p.inputs) c.items.ensures.items))
+    = ap (λ (env : Env). truth_of (eval (calls_of p.definitions) env p.condition)) (sym (c.input_env-env.ensures ∙ ap (bound p.inputs) c.items.ensures.items))
     ∙ ap truth_of (sym c.in_ok-condition.ensures) ∙ sym c.is_true.ensures ∙ holds in
     let ended = c.in_ok-ended.ensures ∙ ap (λ (vs : List PlainValue). account [] 0 0 (run_of p (bound p.inputs vs) c.args.fuel)) c.items-2.ensures.items in
     subst (λ (z : List (List _)). IfOk c.closed.result (λ q. q.lines.items ≡ z)) (ap (λ b. cond b (run_lines (run_of p x c.args.fuel) c.args.fuel) (outside_line ∷ [])) (sym inside))
@@ -60,7 +48,7 @@ returns-clause-entry c =
     let x = bound p.inputs c.args.input.now in
     let holds : c.is_true.result ≡ true = search rules in
     let inside : is_inside p x ≡ true
-    = ap (λ (env : Env). truth_of (eval (calls_of p.definitions) env p.condition)) (sym (c.in_ok-env.ensures ∙ ap (bound p.inputs) c.items.ensures.items))
+    = ap (λ (env : Env). truth_of (eval (calls_of p.definitions) env p.condition)) (sym (c.input_env-env.ensures ∙ ap (bound p.inputs) c.items.ensures.items))
     ∙ ap truth_of (sym c.in_ok-condition.ensures) ∙ sym c.is_true.ensures ∙ holds in
     let ended = c.in_ok-ended.ensures ∙ ap (λ (vs : List PlainValue). account [] 0 0 (run_of p (bound p.inputs vs) c.args.fuel)) c.items-2.ensures.items in
     let out : RunEntry = record { answers = 0; splits = 0; outcome = Outside } in

@@ -18,7 +18,7 @@ loop-value-preserved c =
     record {
       count = l;
       made =
-          ap (λ z. bound (map plain_name earlier) (map plain before) ++ z) (c.in_ok-push.ensures.ok ∙ (λ i. (c.in_ok-copy.ensures i, plain c.in-Some.value) ∷ c.loop-value.env))
+          ap (λ z. bound (map plain_name earlier) (map plain before) ++ z) c.in_ok-push.ensures.ok
           ∙ bound-pushed names earlier name values before c.in-Some.value c.loop-value.env e f l
           ∙ c.loop-value.invariant.made;
     }
