@@ -1,9 +1,11 @@
 -- Reading and printing trees one after another.
-use Rattle.std.proofs.Common.{◌≡◌, ℕ, suc, ◌+◌, ◌*◌, ◌≤◌, ◌<◌, List, [], ◌∷◌, ◌++◌, length, get_or, drop, Option, Some, None, refl, sym, ap, ◌∙◌, arith, add-one, drop-cons, subst}
+use Rattle.std.proofs.Common.{◌≡◌, ℕ, suc, ◌+◌, ◌≤◌, ◌<◌, List, [], ◌∷◌, length, get_or, drop, Option, Some, None, refl, sym, ap, ◌∙◌, arith, add-one, drop-cons, subst}
 use Rattle.std.specs.Prelude.{option_map}
 use Rattle.std.proofs.lemmas.List.{drop_all}
 use Rattle.kid_sexp.specs.declared.tree.Tree.{Tree}
-use Rattle.kid_sexp.specs.Plain.{Plain, Plains, none, more, join, one, join-none, tree_size, forest_size}
+use Rattle.kid_sexp.specs.Plain.{Plain, Plains, none, more, join, one}
+use Rattle.kid_sexp.specs.PlainCode.{join-none}
+use Rattle.kid_sexp.specs.TreeSize.{tree_size, forest_size}
 use Rattle.kid_sexp.specs.Tree.{plain, plains}
 use Rattle.kid_codec.specs.Reading.{◌>>=◌}
 

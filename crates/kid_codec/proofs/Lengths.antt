@@ -1,5 +1,5 @@
 -- Lists of trees of another length than is wanted.
-use Rattle.std.proofs.Common.{◌≡◌, ◌≢◌, ℕ, ◌<◌, ◌≤◌, List, [], ◌∷◌, length, get_or, refl, sym, arith, Option, None}
+use Rattle.std.proofs.Common.{◌≡◌, ◌≢◌, ℕ, ◌<◌, ◌≤◌, List, [], ◌∷◌, length, get_or, refl, sym, arith, None}
 use Rattle.kid_sexp.specs.declared.tree.Tree.{Tree}
 use Rattle.kid_sexp.specs.Tree.{plains}
 use Rattle.kid_codec.specs.SortSpelling.{sort_of_parts}

@@ -1,8 +1,8 @@
 -- A number is read from its decimal text, and from nothing else.
-use Rattle.std.proofs.Common.{◌≡◌, ℕ, suc, ◌+◌, ◌^◌, ◌<◌, ◌≤◌, ℤ, Bool, true, false, List, [], ◌∷◌, length, FitsSigned, w64, Option, Some, None, refl, sym, ap, ◌∙◌, cond, arith, subst}
+use Rattle.std.proofs.Common.{◌≡◌, ℕ, suc, ◌^◌, ◌<◌, ℤ, Bool, true, false, List, [], ◌∷◌, length, FitsSigned, w64, Some, None, refl, sym, ap, ◌∙◌, arith, subst}
 use Rattle.std.specs.Prelude.{pos, negsuc, neg_ℤ, ◌&&◌, ◌==◌, if◌then◌else◌, int_le, nat_le}
 use Rattle.std.specs.Fmt.{decimal, signed_decimal}
-use Rattle.std.specs.Str.{bytes_eq, IsAscii, IsUtf8}
+use Rattle.std.specs.Str.{bytes_eq, IsUtf8}
 use Rattle.std.specs.Str.Parse.{AllDigits, IsNumeral, digits_value, signed_digits_value, without_leading_sign}
 use Rattle.std.proofs.lemmas.Bool.Decides.{nat_tests}
 use Rattle.std.proofs.lemmas.Fmt.{decimal_is_IsNumeral, IsAscii-signed}
@@ -10,9 +10,9 @@ use Rattle.std.proofs.lemmas.Int.{ints as int_rules, fits_signed_from_abs}
 use Rattle.std.proofs.lemmas.Slice.Eq.{bytes_eq-Decides}
 use Rattle.std.proofs.lemmas.Str.{IsUtf8-from_ascii}
 use Rattle.std.proofs.lemmas.Str.Parse.{digit_from_value}
-use Rattle.kid_value.specs.PlainSort.{in_limits}
+use Rattle.kid_value.specs.SortLimits.{in_limits}
 use Rattle.kid_value.proofs.SortLemmas.{and_parts, and_both}
-use Rattle.kid_codec.specs.Name.{is_letter, starts_with_letter}
+use Rattle.kid_codec.specs.Name.{starts_with_letter}
 use Rattle.kid_codec.specs.Number.{number_of}
 
 pub small_pos : (n : ℕ) → in_limits (pos n) ≡ true → n < 2 ^ 63

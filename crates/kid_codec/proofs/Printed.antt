@@ -1,5 +1,5 @@
 -- Lists as they are printed.
-use Rattle.std.proofs.Common.{◌≡◌, ℕ, ◌+◌, ◌<◌, ◌≤◌, List, [], ◌∷◌, length, get_or, drop, map, refl, arith, subst}
+use Rattle.std.proofs.Common.{◌≡◌, ℕ, ◌+◌, ◌<◌, ◌≤◌, List, ◌∷◌, length, get_or, drop, map, refl, arith, subst}
 use Rattle.kid_sexp.specs.Plain.{Plain, Plains, list, more, one}
 use Rattle.kid_value.specs.PlainValue.{heights, entry_heights, row, table}
 use Rattle.kid_value.specs.ValueView.{plain, plain_entry}

@@ -1,16 +1,16 @@
 -- Members and entries that are put one after another.
-use Rattle.std.proofs.Common.{◌≡◌, ◌≢◌, ℕ, suc, ◌+◌, Bool, true, false, List, [], ◌∷◌, length, Option, Some, None, refl, sym, ap, ◌∙◌, arith, subst}
+use Rattle.std.proofs.Common.{◌≡◌, ◌≢◌, ℕ, suc, Bool, true, false, List, [], ◌∷◌, length, Some, None, refl, sym, ap, ◌∙◌, arith}
 use Rattle.std.specs.Prelude.{◌||◌, if◌then◌else◌}
 use Rattle.std.specs.declared.cmp.Ordering.{Ordering}
 use Rattle.std.specs.declared.cmp.Ordering.TheVariants.{Less, Equal, Greater}
 use Rattle.std.specs.Ordering.{is_eq}
 use Rattle.kid_value.specs.PlainValue.{PlainValue}
 use Rattle.kid_value.specs.ValueMap.{put_entry, keys}
-use Rattle.kid_value.specs.ValueOrder.{value_cmp, Before}
+use Rattle.kid_value.specs.ValueOrder.{value_cmp}
 use Rattle.kid_value.specs.ValueSet.{Ascends, AllAfter, value_eq, is_member, put, put_by, union, set_of}
 use Rattle.kid_codec.specs.ValueSpelling.{with_entry}
 use Rattle.kid_value.proofs.CanonicalLemmas.{keys-put_entry}
-use Rattle.kid_value.proofs.ValueSetLaws.{Ascends-put, Ascends-union, is_member-put, is_member-union, is_member-after, AllAfter-before, value_eq-true, same_members}
+use Rattle.kid_value.proofs.ValueSetLaws.{Ascends-put, Ascends-union, is_member-put, is_member-union, is_member-after, AllAfter-before, same_members}
 
 -- each is put in turn
 abbrev pub puts : List PlainValue → List PlainValue → List PlainValue

@@ -1,13 +1,15 @@
 -- The tree of a sort reads back to it.
-use Rattle.std.proofs.Common.{◌≡◌, ℕ, ◌≤◌, ℤ, Bool, true, false, Option, Some, None, Result, Ok, Err, refl, sym, ap, ◌∙◌, arith, min}
+use Rattle.std.proofs.Common.{◌≡◌, ℕ, ℤ, Bool, true, false, Some, Ok, Err, refl, ap, ◌∙◌, arith}
 use Rattle.std.specs.Prelude.{pos, negsuc, not, ◌&&◌, ◌||◌, int_le, nat_le, option_map, if◌then◌else◌}
 use Rattle.std.proofs.lemmas.Bool.Decides.{nat_tests}
 use Rattle.std.proofs.lemmas.Int.{ints as int_rules}
-use Rattle.kid_value.specs.PlainSort.{PlainSort, never, bools, ints, pairs, sets, seqs, maps, both, capped, in_limits, count_of, sort_depth, is_bounded, is_allowed, has_never}
+use Rattle.kid_value.specs.PlainSort.{PlainSort, never, bools, ints, pairs, sets, seqs, maps, has_never}
+use Rattle.kid_value.specs.SortOrder.{both}
+use Rattle.kid_value.specs.SortCount.{capped, count_of}
+use Rattle.kid_value.specs.SortLimits.{in_limits, sort_depth, is_bounded, is_allowed}
 use Rattle.kid_value.proofs.SortLemmas.{and_parts, and_both, int_le-trans}
 use Rattle.kid_codec.specs.Reading.{judged}
 use Rattle.kid_codec.specs.SortSpelling.{sort_spelling, is_spelled_sort, bound_from, spelled_sort, sort_reading}
-use Rattle.kid_codec.specs.declared.fault.CodecFault.{CodecFault}
 use Rattle.kid_codec.specs.declared.fault.CodecFault.TheVariants as fault
 use Rattle.kid_codec.proofs.Numbers.{number_of-decimal}
 

@@ -1,10 +1,13 @@
 -- A tree that spells an allowed sort is the tree of that sort.
-use Rattle.std.proofs.Common.{◌≡◌, ◌⊎◌, inl, inr, ℕ, ◌≤◌, ℤ, Bool, true, false, List, Option, Some, None, Result, Ok, Err, refl, sym, ap, ◌∙◌, arith, min, subst}
+use Rattle.std.proofs.Common.{◌≡◌, inl, inr, ℕ, ℤ, Bool, true, false, List, Some, None, refl, ap, ◌∙◌, arith, subst}
 use Rattle.std.specs.Prelude.{pos, negsuc, not, ◌&&◌, ◌||◌, nat_le, option_map, if◌then◌else◌, codes}
 use Rattle.std.specs.Str.{bytes_eq}
 use Rattle.std.proofs.lemmas.Bool.Decides.{nat_tests}
 use Rattle.kid_sexp.specs.Plain.{Plain, Plains, atom, list, none, more}
-use Rattle.kid_value.specs.PlainSort.{PlainSort, never, bools, ints, pairs, sets, seqs, maps, both, capped, in_limits, count_of, sort_depth, is_bounded, is_allowed, has_never}
+use Rattle.kid_value.specs.PlainSort.{PlainSort, bools, ints, pairs, sets, seqs, maps, has_never}
+use Rattle.kid_value.specs.SortOrder.{both}
+use Rattle.kid_value.specs.SortCount.{count_of}
+use Rattle.kid_value.specs.SortLimits.{sort_depth, is_bounded, is_allowed}
 use Rattle.kid_value.proofs.SortLemmas.{and_parts, and_both}
 use Rattle.kid_codec.specs.SortSpelling.{number_tree, sort_spelling, is_spelled_sort, spelled_number, bound_from, spelled_bound, sort_of_one, sort_of_two, spelled_sort, sort_of_list, sort_of_parts}
 use Rattle.kid_codec.proofs.Numbers.{bytes_eq-true}

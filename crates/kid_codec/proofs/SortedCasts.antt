@@ -1,7 +1,8 @@
 -- A term that has a sort casts to allowed sorts alone.
 use Rattle.std.proofs.Common.{◌≡◌, Bool, true, false, List, ◌∷◌, Result, Ok, Err, refl, ap, ◌∙◌, cond}
 use Rattle.std.specs.Prelude.{nat_le}
-use Rattle.kid_value.specs.PlainSort.{PlainSort, is_allowed, has_never}
+use Rattle.kid_value.specs.PlainSort.{PlainSort, has_never}
+use Rattle.kid_value.specs.SortLimits.{is_allowed}
 use Rattle.kid_value.proofs.SortLemmas.{and_both}
 use Rattle.kid_term.specs.Names.{Names, PlainDef, latest_first}
 use Rattle.kid_term.specs.PlainTerm.{PlainHead, op, call, cast, PlainTerm, var, number, truth, app, bind, PlainTerms, no_term, term, node_count, depth}

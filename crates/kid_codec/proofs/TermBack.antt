@@ -1,12 +1,13 @@
 -- The tree of a term reads back to it.
-use Rattle.std.proofs.Common.{◌≡◌, ℕ, ℤ, Bool, true, false, List, [], ◌∷◌, length, Option, Some, None, Result, Ok, Err, refl, sym, ap, ◌∙◌, arith, subst}
+use Rattle.std.proofs.Common.{◌≡◌, ℕ, ℤ, Bool, true, false, List, ◌∷◌, length, Option, Some, None, Ok, Err, refl, ap, ◌∙◌, arith}
 use Rattle.std.specs.Prelude.{◌&&◌, ◌==◌, nat_le, not, option_map, if◌then◌else◌, codes}
 use Rattle.std.specs.List.{list_all}
 use Rattle.std.specs.Fmt.{signed_decimal}
 use Rattle.std.specs.Str.{bytes_eq}
 use Rattle.std.proofs.lemmas.Bool.Decides.{nat_tests}
 use Rattle.kid_sexp.specs.Plain.{more, one}
-use Rattle.kid_value.specs.PlainSort.{PlainSort, both, in_limits, is_allowed}
+use Rattle.kid_value.specs.SortOrder.{both}
+use Rattle.kid_value.specs.SortLimits.{in_limits}
 use Rattle.kid_value.proofs.SortLemmas.{and_parts, and_both}
 use Rattle.kid_term.specs.declared.operator.LogicOp.TheVariants as logic
 use Rattle.kid_term.specs.declared.operator.NumberOp.TheVariants as num
@@ -23,10 +24,9 @@ use Rattle.kid_term.specs.PlainTerm.{PlainHead, op, call, cast, PlainTerm, var, 
 use Rattle.kid_codec.specs.Name.{is_name, is_reserved, starts_with_letter, is_name_byte}
 use Rattle.kid_codec.specs.Number.{number_of}
 use Rattle.kid_codec.specs.Reading.{judged, ◌>>=◌}
-use Rattle.kid_codec.specs.SortSpelling.{sort_spelling, is_spelled_sort, spelled_sort}
-use Rattle.kid_codec.specs.TermSpelling.{term_spelling, term_spellings, is_spelled_head, is_spelled_term, are_spelled_terms, is_allowed_head, casts_are_allowed, all_casts_are_allowed, applied, suits, called, casted, operated, headed_by, term_of_parts, body_of, spelled_name, spelled_term, spelled_terms, spelled_cast, spelled_body, term_reading}
+use Rattle.kid_codec.specs.SortSpelling.{sort_spelling, is_spelled_sort}
+use Rattle.kid_codec.specs.TermSpelling.{term_spelling, term_spellings, is_spelled_head, is_spelled_term, are_spelled_terms, is_allowed_head, casts_are_allowed, all_casts_are_allowed, suits, called, casted, headed_by, term_of_parts, body_of, spelled_term, spelled_terms, spelled_cast, spelled_body, term_reading}
 use Rattle.kid_codec.specs.Word.{word_of, binder_word, op_of, binder_of}
-use Rattle.kid_codec.specs.declared.fault.CodecFault.{CodecFault}
 use Rattle.kid_codec.specs.declared.fault.CodecFault.TheVariants as fault
 use Rattle.kid_codec.proofs.Numbers.{number_of-decimal, no_letter}
 use Rattle.kid_codec.proofs.SortBack.{spelled_parts}

@@ -1,19 +1,21 @@
 -- A tree that spells a term is the tree of that term.
-use Rattle.std.proofs.Common.{◌≡◌, ◌⊎◌, inl, inr, ℕ, ℤ, Bool, true, false, List, [], ◌∷◌, length, Option, Some, None, refl, sym, ap, ◌∙◌, subst}
-use Rattle.std.specs.Prelude.{◌&&◌, ◌==◌, option_map, if◌then◌else◌, codes}
+use Rattle.std.proofs.Common.{◌≡◌, inl, inr, ℕ, true, false, List, [], ◌∷◌, Option, Some, None, refl, sym, ap, ◌∙◌, subst}
+use Rattle.std.specs.Prelude.{◌&&◌, option_map, if◌then◌else◌, codes}
 use Rattle.std.specs.Str.{bytes_eq}
 use Rattle.kid_sexp.specs.Plain as tree
 use Rattle.kid_sexp.specs.Plain.{Plain, Plains, atom, list}
-use Rattle.kid_value.specs.PlainSort.{PlainSort, both, in_limits, is_allowed}
+use Rattle.kid_value.specs.PlainSort.{PlainSort}
+use Rattle.kid_value.specs.SortOrder.{both}
+use Rattle.kid_value.specs.SortLimits.{is_allowed}
 use Rattle.kid_value.proofs.SortLemmas.{and_parts, and_both}
 use Rattle.kid_term.specs.declared.operator.Op.{Op}
 use Rattle.kid_term.specs.declared.operator.Binder.{Binder}
-use Rattle.kid_term.specs.PlainTerm.{op, call, cast, PlainTerm, var, number, truth, app, bind, PlainTerms, no_term, term, terms, term_row}
+use Rattle.kid_term.specs.PlainTerm.{op, PlainTerm, var, number, truth, app, bind, terms, term_row}
 use Rattle.kid_codec.specs.Name.{is_name}
 use Rattle.kid_codec.specs.Number.{number_of}
 use Rattle.kid_codec.specs.Reading.{◌>>=◌}
-use Rattle.kid_codec.specs.SortSpelling.{sort_spelling, is_spelled_sort, spelled_sort}
-use Rattle.kid_codec.specs.TermSpelling.{term_spelling, term_spellings, is_spelled_term, are_spelled_terms, casts_are_allowed, all_casts_are_allowed, applied, suits, called, casted, operated, headed_by, term_of_parts, body_of, spelled_name, atom_term, spelled_term, spelled_list, spelled_terms, spelled_cast, spelled_body}
+use Rattle.kid_codec.specs.SortSpelling.{is_spelled_sort, spelled_sort}
+use Rattle.kid_codec.specs.TermSpelling.{term_spelling, term_spellings, is_spelled_term, are_spelled_terms, casts_are_allowed, all_casts_are_allowed, applied, suits, called, casted, headed_by, term_of_parts, body_of, spelled_name, atom_term, spelled_term, spelled_list, spelled_terms, spelled_cast, spelled_body}
 use Rattle.kid_codec.specs.Word.{word_of, binder_word, op_of, binder_of}
 use Rattle.kid_codec.proofs.Numbers.{bytes_eq-true}
 use Rattle.kid_codec.proofs.Found.{same_some, if_some, if_else, mapped, both_some, bind_some, number_from}

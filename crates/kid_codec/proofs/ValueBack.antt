@@ -1,24 +1,23 @@
 -- The tree of a value reads back to it.
-use Rattle.std.proofs.Common.{◌≡◌, ◌≢◌, ℕ, ℤ, Bool, true, false, List, [], ◌∷◌, ◌++◌, Option, Some, None, refl, sym, ap, ◌∙◌, arith, subst, append_assoc, append-nil}
+use Rattle.std.proofs.Common.{◌≡◌, ℕ, ℤ, Bool, true, false, List, [], ◌∷◌, ◌++◌, Option, Some, None, refl, sym, ap, ◌∙◌, subst, append_assoc, append-nil}
 use Rattle.std.specs.Prelude.{◌&&◌, ◌||◌, option_map, if◌then◌else◌, codes}
 use Rattle.std.specs.declared.cmp.Ordering.{Ordering}
-use Rattle.std.specs.declared.cmp.Ordering.TheVariants.{Less, Equal, Greater}
 use Rattle.std.specs.Fmt.{signed_decimal}
 use Rattle.std.specs.Ordering.{is_eq}
 use Rattle.std.specs.Str.{bytes_eq}
 use Rattle.kid_value.specs.Canonical.{IsCanonical, AreCanonical, EntriesAreCanonical}
-use Rattle.kid_value.specs.PlainSort.{both, in_limits}
-use Rattle.kid_value.specs.PlainValue.{PlainValue, int, bool, pair, set, seq, map_of, PlainValues, none, more, PlainEntries, no_entry, entry, items, entries, row, table}
+use Rattle.kid_value.specs.SortOrder.{both}
+use Rattle.kid_value.specs.SortLimits.{in_limits}
+use Rattle.kid_value.specs.PlainValue.{PlainValue, int, bool, pair, set, seq, map_of, PlainValues, none, more, PlainEntries, no_entry, entry, items, entries, row}
 use Rattle.kid_value.specs.ValueMap.{put_entry, put_entry_by, keys}
-use Rattle.kid_value.specs.ValueOrder.{value_cmp, Before}
+use Rattle.kid_value.specs.ValueOrder.{Before}
 use Rattle.kid_value.specs.ValueSet.{Ascends, AllAfter, is_member, put, put_by, set_of}
 use Rattle.kid_value.proofs.PlaceLemmas.{greater-before}
 use Rattle.kid_value.proofs.RowLemmas.{row_items, table_entries}
 use Rattle.kid_value.proofs.SortLemmas.{and_parts}
 use Rattle.kid_codec.specs.Name.{starts_with_letter}
-use Rattle.kid_codec.specs.Number.{number_of}
 use Rattle.kid_codec.specs.Reading.{◌>>=◌}
-use Rattle.kid_codec.specs.ValueSpelling.{value_spelling, value_spellings, entry_spellings, is_spelled_value, are_spelled_values, are_spelled_entries, with_entry, with_entries, set_from, seq_from, map_from, distinct_entries, spelled_value, spelled_values, spelled_entry, spelled_entries}
+use Rattle.kid_codec.specs.ValueSpelling.{value_spelling, value_spellings, entry_spellings, is_spelled_value, are_spelled_values, are_spelled_entries, with_entry, with_entries, set_from, seq_from, map_from, distinct_entries, spelled_value, spelled_values, spelled_entries}
 use Rattle.kid_codec.proofs.Numbers.{number_of-decimal, bytes_eq-true, no_letter}
 
 put-first : (x : PlainValue) (xs : List PlainValue) → AllAfter x xs → put x xs ≡ x ∷ xs

@@ -1,9 +1,11 @@
 pub mod DeclaredSpelling
 pub mod Name
 pub mod Number
-pub mod Word
 pub mod Reading
-pub mod SortSpelling
-pub mod ValueSpelling
-pub mod TermSpelling
+pub mod Reserved
 pub mod Shape
+pub mod SortSpelling
+pub mod Takes
+pub mod TermSpelling
+pub mod ValueSpelling
+pub mod Word

@@ -1,8 +1,8 @@
 -- Names, and the words that are none.
-use Rattle.std.specs.Prelude.{ℕ, Bool, true, false, not, ◌&&◌, ◌||◌, ◌==◌, nat_le, List, [], ◌∷◌, length, map}
+use Rattle.std.specs.Prelude.{ℕ, Bool, false, not, ◌&&◌, ◌||◌, ◌==◌, nat_le, List, [], ◌∷◌, length}
 use Rattle.std.specs.List.{list_all}
 use Rattle.std.specs.Str.{bytes_eq}
-use Rattle.kid_codec.specs.declared.name.TheConstants.{RESERVED}
+use Rattle.kid_codec.specs.Reserved.{reserved_words}
 
 abbrev pub is_letter : ℕ → Bool
 is_letter c = nat_le 97 c && nat_le c 122
@@ -26,7 +26,7 @@ is_rule_number [] = false
 is_rule_number (c ∷ cs) = starts_rule c && not (length cs == 0) && list_all is_digit cs
 
 unfoldable pub is_reserved : List ℕ → Bool
-is_reserved word = is_among (map (λ r. r.now) RESERVED) word || is_rule_number word
+is_reserved word = is_among reserved_words word || is_rule_number word
 
 abbrev pub starts_with_letter : List ℕ → Bool
 starts_with_letter [] = false

@@ -3,7 +3,7 @@ use Rattle.std.specs.Prelude.{ℕ, ℤ, ◌&&◌, List, Option, Some, None, if�
 use Rattle.std.specs.Fmt.{signed_decimal}
 use Rattle.std.specs.Str.{bytes_eq}
 use Rattle.std.specs.Str.Parse.{signed_digits_value}
-use Rattle.kid_value.specs.PlainSort.{in_limits}
+use Rattle.kid_value.specs.SortLimits.{in_limits}
 
 -- the number that the digits write, where the word is just its decimal text and it lies within the limits
 abbrev pub number_of : List ℕ → Option ℤ

@@ -1,9 +1,12 @@
 -- Sorts as trees.
-use Rattle.std.specs.Prelude.{ℕ, ℤ, pos, negsuc, Bool, not, ◌&&◌, List, Option, Some, None, option_map, if◌then◌else◌, codes, Result, min}
+use Rattle.std.specs.Prelude.{ℕ, ℤ, pos, negsuc, Bool, not, ◌&&◌, List, Option, Some, None, option_map, if◌then◌else◌, codes, Result}
 use Rattle.std.specs.Fmt.{signed_decimal}
 use Rattle.std.specs.Str.{bytes_eq}
 use Rattle.kid_sexp.specs.Plain.{Plain, Plains, atom, list, none, more, one}
-use Rattle.kid_value.specs.PlainSort.{PlainSort, never, bools, ints, pairs, sets, seqs, maps, both, capped, is_allowed, has_never}
+use Rattle.kid_value.specs.PlainSort.{PlainSort, never, bools, ints, pairs, sets, seqs, maps, has_never}
+use Rattle.kid_value.specs.SortOrder.{both}
+use Rattle.kid_value.specs.SortCount.{capped}
+use Rattle.kid_value.specs.SortLimits.{is_allowed}
 use Rattle.kid_codec.specs.Number.{number_of}
 use Rattle.kid_codec.specs.Reading.{judged}
 use Rattle.kid_codec.specs.declared.fault.CodecFault.{CodecFault}

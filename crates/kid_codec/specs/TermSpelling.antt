@@ -1,9 +1,11 @@
 -- Terms as trees.
-use Rattle.std.specs.Prelude.{ℕ, zero, suc, is_some, Bool, true, false, not, ◌&&◌, ◌==◌, List, [], ◌∷◌, length, Option, Some, None, option_map, if◌then◌else◌, codes, Result}
+use Rattle.std.specs.Prelude.{ℕ, zero, suc, is_some, Bool, true, false, ◌&&◌, ◌==◌, List, [], ◌∷◌, length, Option, Some, None, option_map, if◌then◌else◌, codes, Result}
 use Rattle.std.specs.Str.{bytes_eq}
 use Rattle.kid_sexp.specs.Plain as tree
 use Rattle.kid_sexp.specs.Plain.{Plain, Plains, atom, list, one, join}
-use Rattle.kid_value.specs.PlainSort.{PlainSort, both, in_limits, is_allowed}
+use Rattle.kid_value.specs.PlainSort.{PlainSort}
+use Rattle.kid_value.specs.SortOrder.{both}
+use Rattle.kid_value.specs.SortLimits.{in_limits, is_allowed}
 use Rattle.kid_term.specs.PlainTerm.{PlainHead, op, call, cast, PlainTerm, var, number, truth, app, bind, PlainTerms, no_term, term, terms, term_row}
 use Rattle.kid_term.specs.Written.{number_in}
 use Rattle.kid_term.specs.declared.operator.Op.{Op}
@@ -13,7 +15,8 @@ use Rattle.kid_codec.specs.Number.{number_of}
 use Rattle.kid_codec.specs.Reading.{judged, ◌>>=◌}
 use Rattle.kid_codec.specs.SortSpelling.{number_tree, headed, sort_spelling, is_spelled_sort, spelled_sort}
 use Rattle.kid_codec.specs.ValueSpelling.{truth_word}
-use Rattle.kid_codec.specs.Word.{word_of, binder_word, op_of, binder_of, takes, numbers_first}
+use Rattle.kid_codec.specs.Word.{word_of, binder_word, op_of, binder_of}
+use Rattle.kid_codec.specs.Takes.{takes, numbers_first}
 use Rattle.kid_codec.specs.declared.fault.CodecFault.{CodecFault}
 
 -- the trees of a head, which stand before those of its arguments

@@ -1,9 +1,11 @@
 -- Values as trees.
-use Rattle.std.specs.Prelude.{ℕ, Bool, true, false, ◌&&◌, ◌||◌, List, [], ◌∷◌, Option, Some, None, option_map, if◌then◌else◌, codes, Result}
+use Rattle.std.specs.Prelude.{ℕ, Bool, true, false, ◌&&◌, List, [], ◌∷◌, Option, Some, None, option_map, if◌then◌else◌, codes, Result}
 use Rattle.std.specs.Str.{bytes_eq}
 use Rattle.kid_sexp.specs.Plain as tree
 use Rattle.kid_sexp.specs.Plain.{Plain, Plains, atom, list, one}
-use Rattle.kid_value.specs.PlainSort.{PlainSort, both, in_limits, has_sort}
+use Rattle.kid_value.specs.PlainSort.{PlainSort, has_sort}
+use Rattle.kid_value.specs.SortOrder.{both}
+use Rattle.kid_value.specs.SortLimits.{in_limits}
 use Rattle.kid_value.specs.PlainValue.{PlainValue, int, bool, pair, set, seq, map_of, PlainValues, none, more, PlainEntries, no_entry, entry, row, table}
 use Rattle.kid_value.specs.ValueMap.{put_entry, keys}
 use Rattle.kid_value.specs.ValueSet.{is_member, set_of}

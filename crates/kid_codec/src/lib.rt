@@ -9,8 +9,6 @@ mod print;
 pub mod shape;
 mod sort;
 mod term;
-#[cfg(test)]
-mod tests;
 mod value;
 mod word;
 

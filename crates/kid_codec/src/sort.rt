@@ -2,7 +2,8 @@ ghost use Rattle.std.specs.Prelude.{◌≡◌, true, IfOk, option_map};
 ghost use Rattle.kid_sexp.specs.Tree.{plain, plains};
 ghost use Rattle.kid_value.specs.SortView.{plain_sort};
 ghost use Rattle.kid_codec.specs.Reading.{Gives, Finds};
-ghost use Rattle.kid_value.specs.PlainSort.{ints, seqs, both};
+ghost use Rattle.kid_value.specs.PlainSort.{ints, seqs};
+ghost use Rattle.kid_value.specs.SortOrder.{both};
 ghost use Rattle.kid_codec.specs.SortSpelling.{bound_from, spelled_number, spelled_bound, spelled_sort, sort_of_list, sort_of_parts, sort_of_one, sort_of_two, sort_spelling, is_spelled_sort, sort_reading};
 
 use crate::fault::CodecFault;

@@ -1,7 +1,7 @@
 ghost use Rattle.std.specs.Prelude.{◌≡◌, true, IfOk, is_some, option_map, map};
 ghost use Rattle.kid_sexp.specs.Tree.{plain, plains};
 ghost use Rattle.kid_term.specs.PlainTerm.{term_row};
-ghost use Rattle.kid_value.specs.PlainSort.{both};
+ghost use Rattle.kid_value.specs.SortOrder.{both};
 ghost use Rattle.kid_term.specs.TermView.{plain_term, plain_head};
 ghost use Rattle.kid_term.specs.Written.{number_in};
 ghost use Rattle.kid_codec.specs.Reading.{Gives, Finds};

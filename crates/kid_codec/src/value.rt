@@ -1,6 +1,6 @@
 ghost use Rattle.std.specs.Prelude.{◌≡◌, true, IfOk, option_map};
 ghost use Rattle.kid_sexp.specs.Tree.{plain as plain_tree, plains};
-ghost use Rattle.kid_value.specs.PlainSort.{both};
+ghost use Rattle.kid_value.specs.SortOrder.{both};
 ghost use Rattle.kid_value.specs.PlainValue.{pair};
 ghost use Rattle.kid_value.specs.SortView.{plain_sort};
 ghost use Rattle.kid_value.specs.ValueSet.{set_of};

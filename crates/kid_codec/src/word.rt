@@ -1,6 +1,7 @@
 //! The words of the operators and of the binders.
 ghost use Rattle.std.specs.Prelude.{◌≡◌, Some, IfSome};
-ghost use Rattle.kid_codec.specs.Word.{logic_word, number_word, pair_word, set_word, seq_word, map_word, row_word, word_of, binder_word, first_with, op_of, binder_of, logic_takes, number_takes, pair_takes, set_takes, seq_takes, map_takes, row_takes, takes, row_numbers, numbers_first};
+ghost use Rattle.kid_codec.specs.Word.{logic_word, number_word, pair_word, set_word, seq_word, map_word, row_word, word_of, binder_word, first_with, op_of, binder_of};
+ghost use Rattle.kid_codec.specs.Takes.{logic_takes, number_takes, pair_takes, set_takes, seq_takes, map_takes, row_takes, takes, row_numbers, numbers_first};
 
 use kid_term::{Binder, LogicOp, MapOp, NumberOp, Op, PairOp, SeqOp, SetOp, WordOp};
 use kid_value::Text;

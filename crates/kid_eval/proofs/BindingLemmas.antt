@@ -2,14 +2,15 @@
 use Rattle.std.proofs.Common.{◌≡◌, ℕ, ◌+◌, ◌<◌, zero, suc, ℤ, ◌+ℤ◌, Bool, true, false, List, [], ◌∷◌, ◌++◌, cond, map, length, drop, get_or, refl, sym, ap, ◌∙◌, subst, arith, append_assoc}
 use Rattle.std.specs.Prelude.{not, ◌&&◌, ◌||◌, filter}
 use Rattle.kid_value.proofs.SortLemmas.{and_parts}
-use Rattle.kid_term.specs.Small.{is_small, sums_small}
+use Rattle.kid_term.specs.Small.{is_small}
+use Rattle.kid_value.specs.Rows.Sums.{sums_small}
 use Rattle.std.specs.List.{list_all, list_any}
 use Rattle.std.specs.declared.cmp.Ordering.TheVariants.{Greater}
 use Rattle.std.specs.Ordering.{ordering_reverse}
 use Rattle.std.proofs.lemmas.List.{map-append}
 use Rattle.std.proofs.lemmas.Int.{ints as int_rules}
 use Rattle.kid_value.specs.PlainValue.{PlainValue, int}
-use Rattle.kid_value.specs.Rows.{truth_of, number_of, total}
+use Rattle.kid_value.specs.Rows.Parts.{truth_of, number_of, total}
 use Rattle.kid_value.specs.ValueOrder.{value_cmp, Before}
 use Rattle.kid_value.specs.ValueSet.{AllAfter, Ascends, put, put_by, union}
 use Rattle.kid_value.specs.ValueView.{plain}

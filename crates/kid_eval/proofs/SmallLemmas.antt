@@ -4,7 +4,7 @@ use Rattle.std.specs.Prelude.{◌&&◌}
 use Rattle.std.specs.List.{list_all}
 use Rattle.kid_value.specs.PlainValue.{bool}
 use Rattle.kid_value.specs.PlainSort.{PlainSort}
-use Rattle.kid_value.specs.Rows.{members_of}
+use Rattle.kid_value.specs.Rows.Parts.{members_of}
 use Rattle.kid_value.proofs.SortLemmas.{and_parts}
 use Rattle.kid_term.specs.PlainTerm.{op, PlainTerm, app, bind, PlainTerms, term_row}
 use Rattle.kid_term.specs.TermView.{plain_term}

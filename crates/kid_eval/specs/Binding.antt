@@ -1,7 +1,7 @@
 -- What a binder finds over a set's members.
 use Rattle.std.specs.Prelude.{Bool, true, false, not, ◌||◌, cond, List, [], ◌∷◌}
 use Rattle.kid_value.specs.PlainValue.{PlainValue}
-use Rattle.kid_value.specs.Rows.{truth_of}
+use Rattle.kid_value.specs.Rows.Parts.{truth_of}
 
 -- whether the truth value is among them
 abbrev pub is_found : Bool → List Bool → Bool

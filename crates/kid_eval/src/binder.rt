@@ -2,9 +2,11 @@
 ghost use Rattle.std.specs.Prelude.{◌≡◌, ◌+ℤ◌, true, pos, IfOk, map, length};
 ghost use Rattle.kid_value.specs.ValueView.{plain};
 ghost use Rattle.kid_value.specs.ValueSet.{Ascends, set_of};
-ghost use Rattle.kid_value.specs.Rows.{truth_of, members_of, set_from, number_of, total as total_of};
+ghost use Rattle.kid_value.specs.Rows.Parts.{truth_of, members_of, number_of, total as total_of};
+ghost use Rattle.kid_value.specs.Rows.Kinds.{set_from};
 ghost use Rattle.kid_value.specs.PlainValue.{int};
-ghost use Rattle.kid_term.specs.Small.{is_small, sums_small};
+ghost use Rattle.kid_term.specs.Small.{is_small};
+ghost use Rattle.kid_value.specs.Rows.Sums.{sums_small};
 ghost use Rattle.kid_eval.specs.Binding.{kept as kept_of};
 
 use kid_value::{Members, Memory, Value};

@@ -2,7 +2,7 @@ ghost use Rattle.std.specs.Prelude.{◌≡◌, ◌∷◌, [], true, IfOk, map};
 ghost use Rattle.std.specs.List.{list_all};
 ghost use Rattle.kid_value.specs.ValueView.{plain};
 ghost use Rattle.kid_value.specs.SortView.{plain_sort};
-ghost use Rattle.kid_value.specs.Rows.{truth_of, members_of};
+ghost use Rattle.kid_value.specs.Rows.Parts.{truth_of, members_of};
 ghost use Rattle.kid_term.specs.TermView.{plain_term};
 ghost use Rattle.kid_term.specs.Eval.{eval as value, op_value, cast_value, binder_value, calls_of, call_at};
 ghost use Rattle.kid_term.specs.LogicRows.{logic_value};

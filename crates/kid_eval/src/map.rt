@@ -27,7 +27,7 @@ fn of_none(alloc: Global, op: MapOp) -> Result<Value, Memory>
     ensures { IfOk result (λ v. plain v ≡ map_value op []) }
 {
     match op {
-        MapOp::Map => map::map(alloc),
+        MapOp::Map => Ok(map::map(alloc)),
         _ => Ok(Value::Bool(false)),
     }
 }

@@ -8,7 +8,7 @@ use Rattle.std.proofs.Math.Nat.{pow-le-pow_right, mod-eq_of_lt}
 use Rattle.std.proofs.lemmas.Nat.{and_le_r, pow_pos}
 use Rattle.std.proofs.lemmas.Nat.Bits.{bit_at-lt, bit_at_and, bit_at_or, bit_at_not, bit_at_ones, bit_at_above, same_from_bits_below}
 use Rattle.std.proofs.lemmas.Int.{ints as int_rules}
-use Rattle.kid_value.specs.PlainSort.{in_limits}
+use Rattle.kid_value.specs.SortLimits.{in_limits}
 use Rattle.kid_value.proofs.SortLemmas.{and_parts}
 use Rattle.kid_value.specs.Rows.Word.{has_bit, word_of, lowest_or}
 use Rattle.kid_ops.specs.Bits.{first_place}

@@ -13,7 +13,8 @@ use Rattle.kid_value.specs.ValueView.{plain}
 use Rattle.kid_value.specs.declared.value.Value.{Value}
 use Rattle.kid_value.proofs.ValueOrderLaws.{value_cmp-total, value_cmp-equal}
 use Rattle.kid_value.proofs.ValueSetLaws.{AllAfter-before, AllAfter-put, Ascends-union, is_member-union, is_member-after, same_members, value_eq-comm, value_eq-true, Before-greater, value_cmp-itself}
-use Rattle.kid_ops.specs.Merged.{from_on, starts_with, same, chosen}
+use Rattle.kid_ops.specs.Merged.{from_on, starts_with}
+use Rattle.kid_ops.specs.Chosen.{same, chosen}
 
 -- a list that ascends from a place on
 pub Ascends-drop : (i : ℕ) (xs : List Value) → Ascends (map plain xs) → Ascends (map plain (drop i xs))

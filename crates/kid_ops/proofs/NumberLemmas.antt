@@ -3,7 +3,7 @@ use Rattle.std.proofs.Common.{◌≡◌, ◌+◌, suc, ℤ, pos, negsuc, ◌+ℤ
 use Rattle.std.specs.Prelude.{int_le}
 use Rattle.std.specs.Int.{int_gap}
 use Rattle.std.proofs.lemmas.Int.{ints as int_rules}
-use Rattle.kid_value.specs.PlainSort.{interval_count}
+use Rattle.kid_value.specs.SortCount.{interval_count}
 use Rattle.kid_value.specs.PlainValue.{int}
 use Rattle.kid_value.specs.Rows.Set.{numbers}
 

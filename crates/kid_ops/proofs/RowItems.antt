@@ -8,7 +8,7 @@ use Rattle.kid_value.specs.Rows.Word.{entry_before, item_of, item_value, row_ent
 use Rattle.kid_value.specs.ValueView.{plain}
 use Rattle.kid_value.specs.declared.value.Value.{Value}
 use Rattle.std.proofs.lemmas.Int.{ints as int_rules}
-use Rattle.kid_ops.specs.Bits.{value_of_row}
+use Rattle.kid_ops.specs.RowItems.{value_of_row}
 use Rattle.kid_ops.proofs.MergeLemmas.{drop_next}
 
 there : (items : List Value) (n : ℕ) (item d : Value) → n < length items → item ≡ get_or items n d → item_of (map plain items) n ≡ Some (plain item)

@@ -1,13 +1,13 @@
 -- A sum with one more value, where each sum on the way stays small.
 use Rattle.std.proofs.Common.{◌≡◌, ℕ, ◌+◌, ◌<◌, zero, suc, ℤ, ◌+ℤ◌, true, List, [], ◌∷◌, map, length, drop, get_or, sym, ap, subst, arith}
 use Rattle.std.proofs.lemmas.Int.{ints as int_rules}
-use Rattle.kid_value.specs.PlainSort.{in_limits}
+use Rattle.kid_value.specs.SortLimits.{in_limits}
 use Rattle.kid_value.specs.PlainValue.{PlainValue}
-use Rattle.kid_value.specs.Rows.Set.{number_of, total_of}
+use Rattle.kid_value.specs.Rows.Parts.{number_of, total as total_of}
 use Rattle.kid_value.specs.ValueView.{plain}
 use Rattle.kid_value.specs.declared.value.Value.{Value}
 use Rattle.kid_value.proofs.SortLemmas.{and_parts}
-use Rattle.kid_ops.specs.Sums.{sums_small}
+use Rattle.kid_value.specs.Rows.Sums.{sums_small}
 
 pub record Added (vs : List Value) (i j : ℕ) (v : Value) (n : ℤ) : Type 0 where
   pub fits : in_limits (n +ℤ number_of (plain v)) ≡ true

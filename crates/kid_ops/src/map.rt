@@ -15,10 +15,10 @@ use kid_value::{Entries, Members, Memory, Value, Values, cmp};
 use std::alloc::Global;
 
 /// The map without keys. It takes no memory.
-pub fn map(alloc: Global) -> Result<Value, Memory>
-    ensures { IfOk result (λ v. plain v ≡ rows.empty_map) }
+pub fn map(alloc: Global) -> Value
+    ensures { plain result ≡ rows.empty_map }
 {
-    Ok(Value::Map(Entries::new(alloc)))
+    Value::Map(Entries::new(alloc))
 }
 
 /// The set of the keys.

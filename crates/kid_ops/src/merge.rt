@@ -2,7 +2,8 @@
 ghost use Rattle.std.specs.Prelude.{◌≡◌, ◌∷◌, [], ◌+◌, ◌<◌, IfOk, MatchOption, map, length};
 ghost use Rattle.kid_value.specs.ValueSet.{Ascends, union, is_subset as is_subset_of};
 ghost use Rattle.kid_value.specs.ValueView.{plain};
-ghost use Rattle.kid_ops.specs.Merged.{from_on, starts_with as begins_with, chosen};
+ghost use Rattle.kid_ops.specs.Merged.{from_on, starts_with as begins_with};
+ghost use Rattle.kid_ops.specs.Chosen.{chosen};
 
 use kid_value::{Memory, Value, Values, cmp};
 use std::alloc::Global;

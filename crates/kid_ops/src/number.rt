@@ -1,7 +1,7 @@
 //! The operators on numbers. A result that could be beyond the limits is asked to lie within
 //! plus or minus 2^62.
 ghost use Rattle.std.specs.Prelude.{◌≡◌, ◌+ℤ◌, ◌-ℤ◌, ◌*ℤ◌, neg_ℤ, true};
-ghost use Rattle.kid_value.specs.PlainSort.{in_limits};
+ghost use Rattle.kid_value.specs.SortLimits.{in_limits};
 ghost use Rattle.kid_value.specs.PlainValue.{int, bool};
 ghost use Rattle.kid_value.specs.Rows.Number as rows;
 

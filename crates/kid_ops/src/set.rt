@@ -1,15 +1,18 @@
 //! The operators on sets. Where an argument is of another kind than the operator takes, the
 //! answer is false.
 ghost use Rattle.std.specs.Prelude.{◌≡◌, ◌+ℤ◌, IfOk, length, map, pos, true};
-ghost use Rattle.kid_value.specs.PlainSort.{in_limits, interval_count};
+ghost use Rattle.kid_value.specs.SortLimits.{in_limits};
+ghost use Rattle.kid_value.specs.SortCount.{interval_count};
 ghost use Rattle.kid_value.specs.PlainValue.{int, bool};
+ghost use Rattle.kid_value.specs.Rows.Parts.{number_of, total};
 ghost use Rattle.kid_value.specs.Rows.Set as rows;
+ghost use Rattle.kid_value.specs.Rows.Sums.{sums_small};
 ghost use Rattle.kid_value.specs.ValueSet as lists;
 ghost use Rattle.kid_value.specs.ValueSet.{Ascends, set_of};
 ghost use Rattle.kid_value.specs.ValueView.{plain};
 ghost use Rattle.kid_ops.specs.Kinds.{IsSet};
-ghost use Rattle.kid_ops.specs.Merged.{chosen};
-ghost use Rattle.kid_ops.specs.Sums.{HasSmallSums, sums_small};
+ghost use Rattle.kid_ops.specs.Chosen.{chosen};
+ghost use Rattle.kid_ops.specs.Sums.{HasSmallSums};
 
 use crate::merge;
 use kid_value::{Members, Memory, Value, Values};
@@ -202,7 +205,7 @@ pub fn sum(s: &Value) -> i64
 /// The sum of the values, of which each that is no integer counts as 0.
 pub(crate) fn total_of(values: &[Value]) -> i64
     requires { sums_small (pos 0) (map plain values.now) ≡ true }
-    ensures { result ≡ rows.total_of (map plain values.now) }
+    ensures { result ≡ total (map plain values.now) }
 {
     let mut sum: i64 = 0;
     for v in values {
@@ -213,8 +216,8 @@ pub(crate) fn total_of(values: &[Value]) -> i64
 
 /// The sum with one more value.
 fn added(sum: &i64, v: &Value) -> i64
-    requires { in_limits (sum.now +ℤ rows.number_of (plain v.now)) ≡ true }
-    ensures { result ≡ sum.now +ℤ rows.number_of (plain v.now) }
+    requires { in_limits (sum.now +ℤ number_of (plain v.now)) ≡ true }
+    ensures { result ≡ sum.now +ℤ number_of (plain v.now) }
 {
     match v {
         Value::Int(n) => *sum + *n,

@@ -238,7 +238,7 @@ fn counts(rt: HostRuntime) -> Result<(), Fail> {
 #[test]
 fn looks_up(rt: HostRuntime) -> Result<(), Fail> {
     let alloc = rt.alloc();
-    let empty = map::map(alloc)?;
+    let empty = map::map(alloc);
     let some = mapping(alloc, &[(1, 5), (3, 5)])?;
     let d = Value::Int(9);
     assert!(rt; same(&map::dom(alloc, &some)?, &numbers(alloc, &[1, 3])?));
@@ -264,7 +264,7 @@ fn looks_up(rt: HostRuntime) -> Result<(), Fail> {
 #[test]
 fn looks_up_in_no_map(rt: HostRuntime) -> Result<(), Fail> {
     let alloc = rt.alloc();
-    let empty = map::map(alloc)?;
+    let empty = map::map(alloc);
     let none = numbers(alloc, &[])?;
     let d = Value::Int(9);
     assert!(rt; same(&map::dom(alloc, &empty)?, &none));
@@ -292,9 +292,9 @@ fn fits_and_narrows(rt: HostRuntime) -> Result<(), Fail> {
     assert!(rt; map::fits(&some, &wide));
     assert!(rt; !map::fits(&some, &other));
     assert!(rt; !map::fits(&some, &tight));
-    assert!(rt; map::fits(&some, &map::map(alloc)?));
-    assert!(rt; !map::fits(&map::map(alloc)?, &wide));
-    assert!(rt; same(&map::narrow(alloc, &wide, &map::map(alloc)?)?, &wide));
+    assert!(rt; map::fits(&some, &map::map(alloc)));
+    assert!(rt; !map::fits(&map::map(alloc), &wide));
+    assert!(rt; same(&map::narrow(alloc, &wide, &map::map(alloc))?, &wide));
     assert!(rt; same(&map::narrow(alloc, &wide, &tight)?, &tight));
     assert!(rt; same(&map::narrow(alloc, &other, &wide)?, &other));
     Ok(())
@@ -347,7 +347,7 @@ fn packs_rows(rt: HostRuntime) -> Result<(), Fail> {
     assert!(rt; same(&word::rdrop(alloc, 1, &packed, 0)?, &packed));
     assert!(rt;
         same(
-            &word::renc(alloc, 1, 2, &map::map(alloc)?)?,
+            &word::renc(alloc, 1, 2, &map::map(alloc))?,
             &row(alloc, &[&[], &[]])?
         )
     );
@@ -358,5 +358,26 @@ fn packs_rows(rt: HostRuntime) -> Result<(), Fail> {
             &row(alloc, &[&[9], &[], &[6]])?
         )
     );
+    Ok(())
+}
+
+/// How many numbers there are from one to another, counted in their set.
+fn range_size(alloc: Global, from: i64, to: i64) -> Result<i64, Memory> {
+    let numbers = set::range(alloc, from, to)?;
+    Ok(set::card(&numbers))
+}
+
+#[test]
+fn makes_large_ranges(rt: HostRuntime) -> Result<(), Fail> {
+    assert_eq!(rt; range_size(rt.alloc(), -1, 70000)?, 70002);
+    Ok(())
+}
+
+#[test]
+fn keeps_a_row_at_a_key_below(rt: HostRuntime) -> Result<(), Fail> {
+    let alloc = rt.alloc();
+    let row = row(alloc, &[&[7], &[]])?;
+    let put = word::rput(alloc, 5, &row, 4, &Value::Int(7))?;
+    assert!(rt; same(&put, &row));
     Ok(())
 }

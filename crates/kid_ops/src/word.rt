@@ -3,15 +3,16 @@
 //! the operator takes, the answer is false.
 ghost use Rattle.std.specs.Prelude.{◌≡◌, ◌-ℤ◌, ◌^◌, ◌<◌, ◌≤◌, IfOk, MatchOption, None, Some, length, map, pos, set, true, unwrap_or};
 ghost use Rattle.std.specs.List.{range_with_len};
-ghost use Rattle.kid_value.specs.PlainSort.{in_limits};
+ghost use Rattle.kid_value.specs.SortLimits.{in_limits};
 ghost use Rattle.kid_value.specs.PlainValue.{int, bool};
 ghost use Rattle.kid_value.specs.Rows.Kinds.{natural as natural_of};
-ghost use Rattle.kid_value.specs.Rows.Set.{number_of};
+ghost use Rattle.kid_value.specs.Rows.Parts.{number_of};
 ghost use Rattle.kid_value.specs.Rows.Word as rows;
 ghost use Rattle.kid_value.specs.ValueMap.{lookup};
 ghost use Rattle.kid_value.specs.ValueView.{plain};
 ghost use Rattle.kid_value.specs.ValueSet.{is_member};
-ghost use Rattle.kid_ops.specs.Bits.{first_place, value_of_row, row_with};
+ghost use Rattle.kid_ops.specs.Bits.{first_place};
+ghost use Rattle.kid_ops.specs.RowItems.{value_of_row, row_with};
 ghost use Rattle.kid_ops.specs.Kinds.{IsSet, item_count};
 
 use crate::seq::{copied, copy_onto, natural};

@@ -5,7 +5,8 @@ use Rattle.kid_sexp.specs.Spells.{Spells}
 use Rattle.kid_sexp.proofs.Printed.{text-only}
 use Rattle.kid_sexp.proofs.Spelled.{reading-spelled}
 use Rattle.kid_prog.specs.PlainProgram.{PlainProgram}
-use Rattle.kid_prog.specs.Laws.{program_text, IsLoaded, LoadsAreSpelled, TextsGiveBack}
+use Rattle.kid_prog.specs.ProgramText.{program_text}
+use Rattle.kid_prog.specs.Laws.{IsLoaded, LoadsAreSpelled, TextsGiveBack}
 use Rattle.kid_prog.specs.Loading.{Loads, loading}
 use Rattle.kid_prog.specs.ProgramView.{plain_program}
 use Rattle.kid_prog.specs.Rules.{IsRunnable}

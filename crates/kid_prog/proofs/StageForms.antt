@@ -5,7 +5,8 @@ use Rattle.std.specs.List.{list_all}
 use Rattle.std.specs.Ordering.{int_eq}
 use Rattle.std.proofs.lemmas.Bool.Decides.{Decides-int_eq}
 use Rattle.kid_sexp.specs.Plain.{Plain, Plains, atom, list, none, more, one}
-use Rattle.kid_value.specs.PlainSort.{PlainSort, bools, is_allowed}
+use Rattle.kid_value.specs.PlainSort.{PlainSort, bools}
+use Rattle.kid_value.specs.SortLimits.{is_allowed}
 use Rattle.kid_value.proofs.SortLemmas.{and_parts, and_both}
 use Rattle.kid_term.specs.Names.{Names}
 use Rattle.kid_term.specs.PlainTerm.{PlainTerm}

@@ -142,7 +142,7 @@ refusing m code.Read there f e = ap (λ o. at m o >>= f) e
 refusing m code.Version there f e = ap (λ o. at m o >>= f) e
 refusing m code.Form there f e = ap (λ o. at m o >>= f) e
 refusing m code.Sort there f e = ap (λ o. at m o >>= f) e
-refusing m code.Memory there f e = tt
+refusing m code.Memory there f e = refl
 
 judged_refused : {X Y B : Type 0} (view : X → Y) (m : ℕ) (r : Result X LoadCode) (there : Result Y LoadCode) (f : Y → Loaded B) (fault : LoadFault)
     → Judges view r there → numbered m r ≡ Err fault → Fails fault fault.code (at m there >>= f)

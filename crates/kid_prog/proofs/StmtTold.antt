@@ -3,7 +3,7 @@ use Rattle.std.proofs.Common.{◌≡◌, inl, inr, ℕ, true, List, Some, None, 
 use Rattle.std.specs.Prelude.{◌&&◌, option_map, if◌then◌else◌, codes}
 use Rattle.std.specs.Str.{bytes_eq}
 use Rattle.kid_sexp.specs.Plain.{Plain, Plains, atom, list, none, more, one}
-use Rattle.kid_value.specs.PlainSort.{both}
+use Rattle.kid_value.specs.SortOrder.{both}
 use Rattle.kid_value.proofs.SortLemmas.{and_parts, and_both}
 use Rattle.kid_term.specs.PlainTerm.{PlainTerm}
 use Rattle.kid_codec.specs.Name.{is_name}

@@ -10,7 +10,7 @@ use Rattle.std.proofs.lemmas.Fmt.{decimal_is_IsNumeral}
 use Rattle.std.proofs.lemmas.Str.Parse.{digit_from_value}
 use Rattle.kid_sexp.specs.Alphabet.{in_word}
 use Rattle.kid_sexp.specs.Printing.{is_word}
-use Rattle.kid_value.specs.PlainSort.{in_limits}
+use Rattle.kid_value.specs.SortLimits.{in_limits}
 use Rattle.kid_value.proofs.SortLemmas.{and_parts, and_both, list_all-weaker}
 use Rattle.kid_term.specs.declared.operator.LogicOp.TheVariants as logic
 use Rattle.kid_term.specs.declared.operator.NumberOp.TheVariants as num

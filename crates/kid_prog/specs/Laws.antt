@@ -1,15 +1,11 @@
 -- What holds of loading and of the text.
 use Rattle.std.specs.Prelude.{◌≡◌, ℕ, true, List, Ok}
-use Rattle.kid_sexp.specs.Printing.{text}
 use Rattle.kid_sexp.specs.Spells.{Spells}
 use Rattle.kid_prog.specs.PlainProgram.{PlainProgram}
 use Rattle.kid_prog.specs.Rules.{IsRunnable}
 use Rattle.kid_prog.specs.Spelling.{program_spelling, is_spelled_program}
 use Rattle.kid_prog.specs.Loading.{loading}
-
--- the text of a program
-abbrev pub program_text : PlainProgram → List ℕ
-program_text p = text (program_spelling p)
+use Rattle.kid_prog.specs.ProgramText.{program_text}
 
 -- a program that loads can be run, and is the one that the file's forms spell
 pub record IsLoaded (bytes : List ℕ) (p : PlainProgram) : Type 0 where

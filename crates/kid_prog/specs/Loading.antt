@@ -1,5 +1,5 @@
 -- The program that a file spells, or the first form that is refused.
-use Rattle.std.specs.Prelude.{◌≡◌, ℕ, suc, nat_le, List, [], ◌∷◌, ◌++◌, length, Option, Some, None, Result, Ok, Err, if◌then◌else◌, ⊤}
+use Rattle.std.specs.Prelude.{◌≡◌, ℕ, suc, nat_le, List, [], ◌∷◌, ◌++◌, length, Option, Some, None, Result, Ok, Err, if◌then◌else◌}
 use Rattle.kid_sexp.specs.Plain.{Plain, Plains, none, more}
 use Rattle.kid_sexp.specs.Brackets.{Fault}
 use Rattle.kid_sexp.specs.Reading.{reading}
@@ -114,9 +114,9 @@ from_forest (Ok ts) = program_from ts
 abbrev pub loading : List ℕ → Loaded PlainProgram
 loading bytes = if nat_le (length bytes) 4194304 then from_forest (reading bytes) else refused 0 code.Large
 
--- want of memory says nothing
+-- want of memory is no form's, and says nothing else
 abbrev pub Fails : {A : Type 0} → LoadFault → LoadCode → Loaded A → Type 0
-Fails fault code.Memory there = ⊤
+Fails fault code.Memory there = fault.form ≡ 0
 Fails fault c there = there ≡ Err fault
 
 -- the answer is what there is, or the fault

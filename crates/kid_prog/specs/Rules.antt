@@ -1,6 +1,7 @@
 -- The rules of sorts that a program meets.
 use Rattle.std.specs.Prelude.{◌≡◌, ℕ, Bool, true, false, not, ◌&&◌, List, [], ◌∷◌, ◌++◌, Option, Some, None, Result, Ok, Err}
-use Rattle.kid_value.specs.PlainSort.{PlainSort, bools, sets, is_allowed}
+use Rattle.kid_value.specs.PlainSort.{PlainSort, bools, sets}
+use Rattle.kid_value.specs.SortLimits.{is_allowed}
 use Rattle.kid_term.specs.PlainTerm.{PlainTerm}
 use Rattle.kid_term.specs.Names.{Names, is_named, PlainDef}
 use Rattle.kid_term.specs.Sorted.{Fault, Sorted, ◌>>=◌}

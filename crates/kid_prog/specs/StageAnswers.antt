@@ -1,12 +1,8 @@
--- Where a form is refused, and what the forms before main hold.
+-- Where a form is refused.
 use Rattle.std.specs.Prelude.{ℕ, Result, Ok, Err}
-use Rattle.kid_value.specs.SortView.{plain_sort}
-use Rattle.kid_term.specs.TermView.{plain_term}
-use Rattle.kid_prog.specs.Loading as plain
 use Rattle.kid_prog.specs.declared.fault.LoadCode.{LoadCode}
 use Rattle.kid_prog.specs.declared.fault.LoadCode.TheVariants as code
 use Rattle.kid_prog.specs.declared.fault.LoadFault.{LoadFault}
-use Rattle.kid_prog.specs.declared.loader.Heading.{Heading}
 
 -- want of memory is no form's
 abbrev pub fault_at : ℕ → LoadCode → LoadFault
@@ -16,6 +12,3 @@ fault_at k c = record { form = k; code = c }
 abbrev pub numbered : {A : Type 0} → ℕ → Result A LoadCode → Result A LoadFault
 numbered k (Ok x) = Ok x
 numbered k (Err c) = Err (fault_at k c)
-
-abbrev pub plain_heading : Heading → plain.Heading
-plain_heading h = record { signature = h.signature; condition = plain_term h.condition; output = (h.output, plain_sort h.sort) }

@@ -2,7 +2,7 @@
 use Rattle.std.specs.Prelude.{ℕ, List, Option, Some, None, option_map, if◌then◌else◌, codes}
 use Rattle.std.specs.Str.{bytes_eq}
 use Rattle.kid_sexp.specs.Plain.{Plain, Plains, atom, list, none, more}
-use Rattle.kid_value.specs.PlainSort.{both}
+use Rattle.kid_value.specs.SortOrder.{both}
 use Rattle.kid_codec.specs.Reading.{◌>>=◌}
 use Rattle.kid_codec.specs.Shape.{single, couple}
 use Rattle.kid_codec.specs.TermSpelling.{spelled_name, spelled_term, spelled_terms}

@@ -1,8 +1,6 @@
 //! Search programs: their statements, their text and the rules that they meet.
 #![tactic(auto)]
 
-#[cfg(test)]
-mod definition_tests;
 mod fault;
 mod forest;
 mod forms;
@@ -14,8 +12,6 @@ mod program;
 mod rules;
 mod shape;
 mod statement;
-#[cfg(test)]
-mod tests;
 
 pub use fault::{LoadCode, LoadFault};
 pub use loader::load;

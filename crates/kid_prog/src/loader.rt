@@ -7,7 +7,8 @@ ghost use Rattle.kid_prog.specs.PlainStmt.{stmt_row};
 ghost use Rattle.kid_prog.specs.ProgramView.{plain_program};
 ghost use Rattle.kid_prog.specs.Forms.{known_parameters as parameters_known, main_form as main_of_tree};
 ghost use Rattle.kid_prog.specs.FormAnswers.{Judges};
-ghost use Rattle.kid_prog.specs.StageAnswers.{fault_at, numbered, plain_heading};
+ghost use Rattle.kid_prog.specs.StageAnswers.{fault_at, numbered};
+ghost use Rattle.kid_prog.specs.HeadingView.{plain_heading};
 ghost use Rattle.kid_prog.specs.Laws.{IsLoaded};
 ghost use Rattle.kid_prog.specs.Loading.{Loads, program_with, at_end, after_main, after_output, after_condition, after_inputs, next_definition, after_definitions, program_from, loading};
 

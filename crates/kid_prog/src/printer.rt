@@ -5,7 +5,7 @@ ghost use Rattle.kid_codec.specs.SortSpelling.{number_tree, headed};
 ghost use Rattle.kid_codec.specs.TermSpelling.{term_spelling};
 ghost use Rattle.kid_prog.specs.ProgramView.{plain_program};
 ghost use Rattle.kid_prog.specs.Spelling.{named_spelling, names_spelling, stmt_spellings, definitions_before, inputs_before, program_spelling, is_spelled_program};
-ghost use Rattle.kid_prog.specs.Laws.{program_text};
+ghost use Rattle.kid_prog.specs.ProgramText.{program_text};
 
 use crate::forest::{begun, names_tree, with_definitions, with_inputs, with_name, with_statements};
 use crate::program::Program;

@@ -3,7 +3,7 @@ ghost use Rattle.std.specs.Prelude.{◌≡◌};
 ghost use Rattle.kid_sexp.specs.Plain.{list};
 ghost use Rattle.kid_sexp.specs.Tree.{plain, plains};
 ghost use Rattle.kid_value.specs.NameView.{plain_name};
-ghost use Rattle.kid_value.specs.PlainSort.{both};
+ghost use Rattle.kid_value.specs.SortOrder.{both};
 ghost use Rattle.kid_term.specs.DefView.{plain_def};
 ghost use Rattle.kid_codec.specs.Reading.{Finds};
 ghost use Rattle.kid_codec.specs.TermSpelling.{spelled_name as name_of_tree, spelled_term as term_of_tree, spelled_terms as terms_of_trees};

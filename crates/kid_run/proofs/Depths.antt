@@ -2,7 +2,7 @@
 use Rattle.std.proofs.Common.{◌≡◌, ℕ, zero, suc, ◌≤◌, Bool, true, false, List, [], ◌∷◌, ◌++◌, refl, sym, ap, ◌∙◌, cond, arith, append_assoc}
 use Rattle.std.specs.List.{flat_map}
 use Rattle.kid_value.specs.PlainValue.{PlainValue}
-use Rattle.kid_value.specs.Rows.{truth_of, members_of}
+use Rattle.kid_value.specs.Rows.Parts.{truth_of, members_of}
 use Rattle.kid_term.specs.PlainTerm.{term_row}
 use Rattle.kid_term.specs.Eval.{Env, Calls, eval, evals, calls_of}
 use Rattle.kid_prog.specs.PlainStmt.{PlainStmts, no_stmt, stmt, assign, when, each, emit, call}

@@ -10,7 +10,9 @@ use Rattle.std.specs.Fmt.{decimal, signed_decimal}
 use Rattle.std.proofs.lemmas.Int.{ints as int_rules}
 use Rattle.std.proofs.lemmas.Bool.Decides.{nat_tests}
 use Rattle.kid_value.specs.PlainValue.{PlainValue, int, bool, pair, set, seq, map_of, PlainValues, none, more, PlainEntries, no_entry, entry, items, entries}
-use Rattle.kid_value.specs.PlainSort.{PlainSort, ints, pairs, sets, seqs, maps, has_sort, is_allowed, is_bounded, in_limits, sort_depth, count_of}
+use Rattle.kid_value.specs.PlainSort.{PlainSort, ints, pairs, sets, seqs, maps, has_sort}
+use Rattle.kid_value.specs.SortLimits.{is_allowed, is_bounded, in_limits, sort_depth}
+use Rattle.kid_value.specs.SortCount.{count_of}
 use Rattle.kid_value.proofs.SortLemmas.{and_parts, and_both}
 use Rattle.kid_codec.specs.ValueSpelling.{value_spelling, value_spellings, entry_spellings, is_spelled_value, are_spelled_values, are_spelled_entries}
 use Rattle.kid_sexp.specs.Alphabet.{in_word}

@@ -5,7 +5,7 @@ use Rattle.std.specs.List.{flat_map}
 use Rattle.std.proofs.lemmas.Bool.Decides.{nat_tests}
 use Rattle.kid_value.specs.PlainValue.{PlainValue}
 use Rattle.kid_value.specs.PlainSort.{PlainSort, bools, sets}
-use Rattle.kid_value.specs.Rows.{truth_of, members_of}
+use Rattle.kid_value.specs.Rows.Parts.{truth_of, members_of}
 use Rattle.kid_value.proofs.SortLemmas.{and_parts}
 use Rattle.kid_codec.specs.ValueSpelling.{is_spelled_value}
 use Rattle.kid_term.specs.PlainTerm.{PlainTerm, term_row}

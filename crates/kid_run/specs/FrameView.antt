@@ -2,7 +2,7 @@
 use Rattle.std.specs.Prelude.{List, map, drop, reverse}
 use Rattle.kid_value.specs.PlainValue.{PlainValue}
 use Rattle.kid_value.specs.ValueView.{plain}
-use Rattle.kid_value.specs.Rows.{members_of}
+use Rattle.kid_value.specs.Rows.Parts.{members_of}
 use Rattle.kid_prog.specs.PlainStmt.{PlainStmts, stmt_row}
 use Rattle.kid_prog.specs.StmtView.{plain_stmt}
 use Rattle.kid_prog.specs.declared.statement.Stmt.{Stmt}

@@ -4,7 +4,7 @@ use Rattle.std.specs.List.{flat_map}
 use Rattle.std.specs.Fmt.{decimal}
 use Rattle.kid_sexp.specs.Printing.{tree_text}
 use Rattle.kid_value.specs.PlainValue.{PlainValue}
-use Rattle.kid_value.specs.Rows.{truth_of}
+use Rattle.kid_value.specs.Rows.Parts.{truth_of}
 use Rattle.kid_term.specs.Eval.{Env, eval, calls_of}
 use Rattle.kid_codec.specs.ValueSpelling.{value_spelling}
 use Rattle.kid_prog.specs.PlainProgram.{PlainProgram}

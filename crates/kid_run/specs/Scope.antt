@@ -1,7 +1,8 @@
--- A machine of which all terms have their sorts.
+-- A machine whose statements obey the rules, and whose values have their sorts.
 use Rattle.std.specs.Prelude.{◌≡◌, ℕ, ◌≤◌, true, false, List, [], ◌∷◌, length, ⊤}
 use Rattle.kid_value.specs.PlainValue.{PlainValue}
-use Rattle.kid_value.specs.PlainSort.{PlainSort, is_allowed}
+use Rattle.kid_value.specs.PlainSort.{PlainSort}
+use Rattle.kid_value.specs.SortLimits.{is_allowed}
 use Rattle.kid_term.specs.Names.{Names, is_named}
 use Rattle.kid_term.specs.Eval.{Env, bound}
 use Rattle.kid_term.specs.Fitting.{IsOfSort, Fits, AreAllowed}

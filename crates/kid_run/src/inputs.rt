@@ -1,4 +1,4 @@
-ghost use Rattle.std.specs.Prelude.{◌≡◌, ◌∷◌, ◌++◌, ◌<◌, ◌^◌, [], suc, IfOk, OnOk, OnErr, map, option_map};
+ghost use Rattle.std.specs.Prelude.{◌≡◌, ◌∷◌, ◌++◌, ◌+◌, ◌<◌, ◌^◌, [], suc, IfOk, OnOk, OnErr, length, map, option_map};
 ghost use Rattle.kid_sexp.specs.Tree.{plain as plain_tree, plains};
 ghost use Rattle.kid_value.specs.NameView.{plain_name};
 ghost use Rattle.kid_value.specs.SortView.{plain_sort};
@@ -138,25 +138,23 @@ fn input_from(alloc: Global, names: &[(Text, Sort)], tree: &Tree) -> Result<Opti
 }
 
 /// The number of the form that so many stand before.
-fn number(before: usize) -> Result<u32, Memory>
-    requires { before < 2 ^ 63 }
-    ensures { IfOk result (λ n. n ≡ suc before) }
+fn number(before: usize) -> u32
+    requires { before + 1 < 2 ^ 32 }
+    ensures { result ≡ suc before }
 {
-    match u32::try_from(before + 1) {
-        Ok(number) => Ok(number),
-        Err(_) => Err(Memory),
-    }
+    before as u32 + 1
 }
 
 #[tactic(auto, using(crate::proofs::InputLemmas::input_rules))]
 fn inputs_from(alloc: Global, names: &[(Text, Sort)], trees: &[Tree]) -> Result<Inputs, InputFault>
+    requires { length trees.now + 1 < 2 ^ 32 }
     ensures reading { InputsGiven result (inputs_from (map plain_name names.now) 0 (plains trees.now)) }
     ensures fit { IfOk result (λ inputs. AllFit (map plain_name names.now) inputs) }
 {
     let mut inputs = Inputs::new(alloc);
     for (before, tree) in trees.iter().enumerate() {
         let Some(values) = input_from(alloc, names, tree)? else {
-            return Err(InputFault::Form(number(before)?));
+            return Err(InputFault::Form(number(before)));
         };
         inputs.push(values)?;
     }

@@ -1,4 +1,4 @@
-use crate::{read_inputs, run};
+use crate::{InputFault, read_inputs, run};
 use kid_outer::SteadySink;
 use kid_prog::load;
 use std::alloc::Global;
@@ -120,4 +120,37 @@ fn takes_sixteen_inputs_of_every_sort(rt: HostRuntime) -> Result<(), Fail> {
     let want = "(pair true (pair 7 (pair (pair false 4) (pair (set 2 5) (pair (seq 9 0) \
                 (map (1 false) (3 true)))))))\n(answers 1 splits 0)\n(outside)\n";
     puts(&rt, rt.alloc(), program, inputs, want)
+}
+
+/// Why the bytes are no inputs of a program that has none, and None where they are.
+fn refusal(alloc: Global, bytes: &[u8]) -> Result<Option<InputFault>, Fail> {
+    let program = "(program 1) (require true) (output z bool) (main) (search ())";
+    let program = load(alloc, program.as_bytes())?;
+    Ok(read_inputs(alloc, &program, bytes).err())
+}
+
+#[test]
+fn names_a_late_form(rt: HostRuntime) -> Result<(), Fail> {
+    let mut file = Vec::new(rt.alloc());
+    for _ in 0..65535 {
+        file.extend_from_slice(b"()")?;
+    }
+    assert_eq!(rt; refusal(rt.alloc(), &file)?, None);
+    file.push(b'x')?;
+    let want = Some(InputFault::Form(65536));
+    assert_eq!(rt; refusal(rt.alloc(), &file)?, want);
+    Ok(())
+}
+
+#[test]
+fn reads_no_large_file(rt: HostRuntime) -> Result<(), Fail> {
+    let mut file = Vec::new(rt.alloc());
+    for _ in 0..4194304 {
+        file.push(b' ')?;
+    }
+    assert_eq!(rt; refusal(rt.alloc(), &file)?, None);
+    file.push(b' ')?;
+    let want = Some(InputFault::Form(0));
+    assert_eq!(rt; refusal(rt.alloc(), &file)?, want);
+    Ok(())
 }

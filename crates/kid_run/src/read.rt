@@ -1,7 +1,7 @@
 //! What is read off values.
 ghost use Rattle.std.specs.Prelude.{◌≡◌, map};
 ghost use Rattle.kid_value.specs.ValueView.{plain};
-ghost use Rattle.kid_value.specs.Rows.{truth_of, members_of};
+ghost use Rattle.kid_value.specs.Rows.Parts.{truth_of, members_of};
 
 use kid_value::Value;
 

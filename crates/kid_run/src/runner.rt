@@ -1,4 +1,4 @@
-ghost use Rattle.std.specs.Prelude.{◌≡◌, ◌<◌, ◌++◌, ◌^◌, IfOk, OnOk, IsErrOf, option_map};
+ghost use Rattle.std.specs.Prelude.{◌≡◌, ◌<◌, ◌≤◌, ◌++◌, ◌^◌, IfOk, OnOk, IsErrOf, option_map};
 ghost use Rattle.kid_outer.specs.Causes.{Rose};
 ghost use Rattle.kid_outer.specs.Written.{AppendsPrefix};
 ghost use Rattle.kid_prog.specs.ProgramView.{plain_program};
@@ -48,7 +48,8 @@ impl<T: Drop> From<AllocFailed<T>> for RunFault {
 ///
 /// # Errors
 ///
-/// `PutFailed`: a put failed, which the sink's count shows. `Memory`: memory is wanting. A front of the text was put then.
+/// `PutFailed`: a put failed, which the sink's count shows. `Memory`: memory is wanting. A front of the text was put then. The
+/// sink's count never falls.
 pub fn run<O: Sink>(
     alloc: Global,
     program: &Program,
@@ -63,6 +64,7 @@ pub fn run<O: Sink>(
     ensures text { OnOk result (O.written out.new ≡ option_map (λ w. w ++ run_text (plain_program program.now) fuel (envs_of (plain_program program.now).inputs inputs.now)) (O.written out.old)) }
     ensures front { AppendsPrefix (run_text (plain_program program.now) fuel (envs_of (plain_program program.now).inputs inputs.now)) (O.written out.old) (O.written out.new) }
     ensures failed { IsErrOf result RunFault.PutFailed → Rose (O.faults out.old) (O.faults out.new) }
+    ensures later { O.faults out.old ≤ O.faults out.new }
 {
     let mut entries = Vec::new(alloc);
     for input in inputs.items() {

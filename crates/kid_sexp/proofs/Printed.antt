@@ -4,8 +4,11 @@ use Rattle.std.specs.Prelude.{IsTrue, IfOk, Result, Ok, Err}
 use Rattle.std.specs.List.{list_all}
 use Rattle.std.proofs.lemmas.Bool.{and_parts, and_from, or_right}
 use Rattle.std.proofs.lemmas.List.Folds.{list_all-append}
-use Rattle.kid_sexp.specs.Token.{Token, opens, closes, word, Mark, opens_at, closes_at, word_of, token, tokens_code}
-use Rattle.kid_sexp.specs.Plain.{Plain, Plains, atom, list, none, more, flat, flat_tree, flat_before, depth, plains_code}
+use Rattle.kid_sexp.specs.Token.{Token, opens, closes, word, Mark, opens_at, closes_at, word_of, token}
+use Rattle.kid_sexp.specs.TokenCode.{tokens_code}
+use Rattle.kid_sexp.specs.Plain.{Plain, Plains, atom, list, none, more, depth}
+use Rattle.kid_sexp.specs.PlainTokens.{flat, flat_tree, flat_before}
+use Rattle.kid_sexp.specs.PlainCode.{plains_code}
 use Rattle.kid_sexp.specs.Alphabet.{is_blank, is_visible, in_alphabet, in_word, IsClean}
 use Rattle.kid_sexp.specs.Tokens.{Tokens, done, separator, remark, opening, closing, run, ends_or}
 use Rattle.kid_sexp.specs.Spells.{Spells}

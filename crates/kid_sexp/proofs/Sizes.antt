@@ -3,7 +3,8 @@ use Rattle.std.proofs.Common.{◌≡◌, ℕ, ◌+◌, ◌≤◌, List, [], ◌�
 use Rattle.std.proofs.lemmas.List.{length-append, length-map}
 use Rattle.kid_sexp.specs.Token.{Token, closes, Mark, token}
 use Rattle.kid_sexp.specs.Tokens.{Tokens, done, separator, remark, opening, closing, run}
-use Rattle.kid_sexp.specs.Plain.{Plain, Plains, atom, list, none, more, forest_len, flat_tree, flat_before, flat}
+use Rattle.kid_sexp.specs.Plain.{Plain, Plains, atom, list, none, more, forest_len}
+use Rattle.kid_sexp.specs.PlainTokens.{flat_tree, flat_before, flat}
 use Rattle.kid_sexp.specs.Spells.{Spells}
 use Rattle.kid_sexp.specs.declared.tree.Tree.{Tree}
 use Rattle.kid_sexp.specs.Tree.{plains}

@@ -1,7 +1,8 @@
 -- Which forest a text spells, and which fault its brackets have.
 use Rattle.std.specs.Prelude.{◌≡◌, ℕ, ◌≤◌, List, length, map, Some}
 use Rattle.kid_sexp.specs.Token.{Mark, token}
-use Rattle.kid_sexp.specs.Plain.{Plains, flat, depth}
+use Rattle.kid_sexp.specs.Plain.{Plains, depth}
+use Rattle.kid_sexp.specs.PlainTokens.{flat}
 use Rattle.kid_sexp.specs.Alphabet.{IsClean, IsFirstBad}
 use Rattle.kid_sexp.specs.Tokens.{Tokens}
 use Rattle.kid_sexp.specs.Brackets.{Fault, bad, deep, unbalanced, bracket_fault}

@@ -1,5 +1,6 @@
 use crate::{Forest, PrintFault, ReadFault, Tree, print, read};
 use kid_value::Text;
+use std::alloc::{AllocError, Global};
 use std::test::Fail;
 
 #[test]
@@ -108,5 +109,30 @@ fn tells_its_faults(rt: HostRuntime) -> Result<(), Fail> {
         format!(in rt.alloc(); "{}", PrintFault::Memory)?.as_str(),
         "out of memory"
     );
+    Ok(())
+}
+
+/// The piece so many times.
+fn repeated(alloc: Global, piece: &[u8], count: usize) -> Result<Vec<u8>, AllocError> {
+    let mut text = Vec::new(alloc);
+    for _ in 0..count {
+        text.extend_from_slice(piece)?;
+    }
+    Ok(text)
+}
+
+fn is_printed_as_read(alloc: Global, text: &[u8]) -> Result<bool, Fail> {
+    let forest = read(alloc, text)?;
+    let printed = print(alloc, &forest)?;
+    Ok(printed.as_slice() == text)
+}
+
+#[test]
+fn reads_many_trees_and_long_words(rt: HostRuntime) -> Result<(), Fail> {
+    let trees = repeated(rt.alloc(), b"a\n", 5000)?;
+    assert!(rt; is_printed_as_read(rt.alloc(), &trees)?);
+    let mut word = repeated(rt.alloc(), b"a", 5000)?;
+    word.push(b'\n')?;
+    assert!(rt; is_printed_as_read(rt.alloc(), &word)?);
     Ok(())
 }

@@ -1,5 +1,5 @@
 -- Which definition a call means, and what its sort is.
-use Rattle.std.proofs.Common.{◌≡◌, ℕ, zero, suc, ◌+◌, ◌≤◌, Bool, true, false, cond, List, [], ◌∷◌, ◌++◌, Option, Some, None, Result, Ok, Err, refl, ap, sym, ◌∙◌, subst, arith, map, length, drop, nat_eq}
+use Rattle.std.proofs.Common.{◌≡◌, ℕ, zero, suc, ◌+◌, ◌≤◌, Bool, true, false, cond, List, [], ◌∷◌, ◌++◌, Some, None, Ok, Err, refl, ap, ◌∙◌, arith, map, length, drop, nat_eq}
 use Rattle.std.proofs.lemmas.List.{map-append}
 use Rattle.std.proofs.lemmas.Bool.Decides.{nat_tests}
 use Rattle.kid_value.specs.PlainSort.{PlainSort}
@@ -7,7 +7,7 @@ use Rattle.kid_value.specs.SortView.{plain_sort}
 use Rattle.kid_value.specs.declared.sort.Sort.{Sort}
 use Rattle.kid_value.specs.NameView.{plain_name}
 use Rattle.kid_term.specs.DefView.{plain_def}
-use Rattle.kid_term.specs.Names.{same_name, PlainDef, latest_over, latest_first}
+use Rattle.kid_term.specs.Names.{same_name, PlainDef, latest_over}
 use Rattle.kid_term.specs.Sorted.{Sorted, Unknown, Kind}
 use Rattle.kid_term.specs.Sorting.{fit_parameters, call_sort}
 use Rattle.kid_term.specs.declared.definition.Def.{Def}

@@ -1,5 +1,5 @@
 -- Sorts in front of others.
-use Rattle.std.proofs.Common.{◌≡◌, List, [], ◌∷◌, ◌++◌, Result, Ok, Err, refl}
+use Rattle.std.proofs.Common.{List, ◌++◌, Result, Ok}
 use Rattle.kid_value.specs.PlainSort.{PlainSort}
 use Rattle.kid_term.specs.Sorted.{Fault, ◌>>=◌}
 

@@ -1,8 +1,10 @@
 -- The least sort above all, from the last sort on.
-use Rattle.std.proofs.Common.{◌≡◌, ℕ, ◌<◌, false, List, [], ◌∷◌, ◌++◌, Option, Some, None, refl, ap, sym, ◌∙◌, arith, map}
+use Rattle.std.proofs.Common.{◌≡◌, ℕ, ◌<◌, false, List, [], ◌∷◌, ◌++◌, Option, Some, None, refl, ap, ◌∙◌, arith, map}
 use Rattle.std.proofs.lemmas.List.{map-append}
 use Rattle.std.proofs.lemmas.Bool.Decides.{nat_tests}
-use Rattle.kid_value.specs.PlainSort.{PlainSort, never, join, seqs, is_allowed}
+use Rattle.kid_value.specs.PlainSort.{PlainSort, never, seqs}
+use Rattle.kid_value.specs.SortOrder.{join}
+use Rattle.kid_value.specs.SortLimits.{is_allowed}
 use Rattle.kid_value.specs.SortView.{plain_sort}
 use Rattle.kid_value.specs.declared.sort.Sort.{Sort}
 use Rattle.kid_term.specs.Sorted.{Bounds, allowed, join_all}

@@ -1,9 +1,12 @@
 -- Keys of which the greatest does not fit the machine are of no allowed sort.
-use Rattle.std.proofs.Common.{◌≡◌, refl, ℕ, ◌+◌, ◌<◌, ◌≤◌, List, [], ◌∷◌, length, map, Bool, true, false, arith, Some, None, Ok, Err, ap, sym, ◌∙◌}
-use Rattle.std.specs.Prelude.{ℤ, pos, negsuc, ◌+ℤ◌, ◌-ℤ◌, FitsSigned, int_le, nat_le, ◌&&◌}
+use Rattle.std.proofs.Common.{◌≡◌, refl, ℕ, ◌+◌, ◌<◌, ◌≤◌, List, [], ◌∷◌, length, map, Bool, true, false, arith, Err, ap}
+use Rattle.std.specs.Prelude.{ℤ, pos, ◌+ℤ◌, ◌-ℤ◌, FitsSigned, nat_le, ◌&&◌}
 use Rattle.std.specs.Int.{w64, int_min, int_max}
 use Rattle.std.proofs.lemmas.Int.{ints as int_rules, clamps}
-use Rattle.kid_value.specs.PlainSort.{PlainSort, never, bools, ints, pairs, sets, seqs, maps, join, is_bounded, is_allowed, count_of, sort_depth}
+use Rattle.kid_value.specs.PlainSort.{PlainSort, never, bools, ints, pairs, sets, seqs, maps}
+use Rattle.kid_value.specs.SortOrder.{join}
+use Rattle.kid_value.specs.SortLimits.{is_bounded, is_allowed, sort_depth}
+use Rattle.kid_value.specs.SortCount.{count_of}
 use Rattle.kid_value.specs.SortView.{plain_sort}
 use Rattle.kid_value.specs.declared.sort.Sort.{Sort}
 use Rattle.kid_term.specs.Sorted.{Sorted, Kind, Bounds, allowed, with_two, with_join}

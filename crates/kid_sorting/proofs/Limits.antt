@@ -1,10 +1,11 @@
 -- What does not fit the machine is no bound of an allowed sort.
-use Rattle.std.proofs.Common.{◌≡◌, refl, ℕ, false, true, Bool, arith, cond, Result, Ok, Err, ap, sym, ◌∙◌}
-use Rattle.std.specs.Prelude.{ℤ, pos, negsuc, FitsSigned, int_le, ◌≤ℤ◌, ◌&&◌}
+use Rattle.std.proofs.Common.{◌≡◌, refl, false, true, Bool, arith, Err, sym, ◌∙◌}
+use Rattle.std.specs.Prelude.{ℤ, pos, FitsSigned, ◌≤ℤ◌}
 use Rattle.std.specs.Int.{w64, int_min, int_max}
 use Rattle.std.proofs.lemmas.Int.{ints as int_rules, clamps}
-use Rattle.kid_value.specs.PlainSort.{PlainSort, ints, is_allowed}
-use Rattle.kid_term.specs.Sorted.{Sorted, Bounds, allowed}
+use Rattle.kid_value.specs.PlainSort.{PlainSort, ints}
+use Rattle.kid_value.specs.SortLimits.{is_allowed}
+use Rattle.kid_term.specs.Sorted.{Bounds, allowed}
 use Rattle.kid_term.specs.NumberSorts.{least_of_four, greatest_of_four}
 
 refused : (s : PlainSort) → is_allowed s ≡ false → allowed s ≡ Err Bounds

@@ -1,7 +1,9 @@
 -- Definitions that are sound one after another, and names with allowed sorts.
-use Rattle.std.proofs.Common.{◌≡◌, ◌⊎◌, inl, inr, ℕ, Bool, true, false, cond, List, [], ◌∷◌, ◌++◌, refl, sym, ap, ◌∙◌}
+use Rattle.std.proofs.Common.{◌≡◌, ◌⊎◌, inl, inr, Bool, true, false, cond, List, [], ◌∷◌, ◌++◌, refl, sym, ap, ◌∙◌}
 use Rattle.std.specs.Prelude.{◌&&◌, nat_le, Ok, Err}
-use Rattle.kid_value.specs.PlainSort.{PlainSort, is_subsort, is_allowed}
+use Rattle.kid_value.specs.PlainSort.{PlainSort}
+use Rattle.kid_value.specs.SortOrder.{is_subsort}
+use Rattle.kid_value.specs.SortLimits.{is_allowed}
 use Rattle.kid_value.proofs.SortLemmas.{and_parts}
 use Rattle.kid_term.specs.Fitting.{AreAllowed, IsSound, AreSoundOver, AreSound}
 use Rattle.kid_term.specs.Names.{Names, PlainDef, same_name, latest_over, latest_first}

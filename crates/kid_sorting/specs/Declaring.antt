@@ -1,6 +1,8 @@
 -- Names that are declared, and the rules that a definition meets.
-use Rattle.std.specs.Prelude.{◌≡◌, ℕ, nat_le, Bool, true, false, not, ◌&&◌, List, [], ◌∷◌, ◌++◌, Ok, Err}
-use Rattle.kid_value.specs.PlainSort.{PlainSort, bools, is_subsort, is_allowed}
+use Rattle.std.specs.Prelude.{ℕ, nat_le, Bool, true, false, not, ◌&&◌, List, [], ◌∷◌, ◌++◌, Ok, Err}
+use Rattle.kid_value.specs.PlainSort.{PlainSort, bools}
+use Rattle.kid_value.specs.SortOrder.{is_subsort}
+use Rattle.kid_value.specs.SortLimits.{is_allowed}
 use Rattle.kid_term.specs.Names.{Names, same_name, is_named, PlainDef}
 use Rattle.kid_term.specs.Sorted.{Sorted}
 use Rattle.kid_term.specs.Sorting.{sort_of}

@@ -1,7 +1,8 @@
 ghost use Rattle.std.specs.Prelude.{◌≡◌, Ok, IfOk, map};
 ghost use Rattle.std.specs.Option.{option_map};
 ghost use Rattle.kid_value.specs.SortView.{plain_sort};
-ghost use Rattle.kid_value.specs.PlainSort.{bools, sets, join as join_of};
+ghost use Rattle.kid_value.specs.PlainSort.{bools, sets};
+ghost use Rattle.kid_value.specs.SortOrder.{join as join_of};
 ghost use Rattle.kid_term.specs.Sorted.{allowed, with_join, join_all as join_of_all};
 ghost use Rattle.kid_sorting.specs.Answers.{SortGives};
 

@@ -1,7 +1,8 @@
 ghost use Rattle.std.specs.Prelude.{◌≡◌, pos, ◌+ℤ◌, ◌-ℤ◌, MatchOption, FitsSigned};
 ghost use Rattle.std.specs.Int.{w64};
 ghost use Rattle.kid_value.specs.SortView.{plain_sort};
-ghost use Rattle.kid_value.specs.PlainSort.{sets, maps, join as join_of};
+ghost use Rattle.kid_value.specs.PlainSort.{sets, maps};
+ghost use Rattle.kid_value.specs.SortOrder.{join as join_of};
 ghost use Rattle.kid_term.specs.Sorted.{allowed, with_join};
 ghost use Rattle.kid_term.specs.WordSorts.{count_in as count_within, are_keys as may_be_keys, keys_from as keys_upward};
 ghost use Rattle.kid_sorting.specs.Answers.{SortGives};

@@ -28,10 +28,3 @@ pub use fault::SortFault;
 pub use find::find_definition;
 pub use signature::Signature;
 pub use sorting::{MAX_DEPTH, MAX_NODES, sort_of, sort_over};
-
-#[cfg(test)]
-mod operator_tests;
-#[cfg(test)]
-mod tests;
-#[cfg(test)]
-mod word_tests;

@@ -1,6 +1,7 @@
 ghost use Rattle.std.specs.Prelude.{◌≡◌, ◌∷◌, [], Ok, map};
 ghost use Rattle.kid_value.specs.SortView.{plain_sort};
-ghost use Rattle.kid_value.specs.PlainSort.{bools, maps, join as join_of};
+ghost use Rattle.kid_value.specs.PlainSort.{bools, maps};
+ghost use Rattle.kid_value.specs.SortOrder.{join as join_of};
 ghost use Rattle.kid_term.specs.Sorted.{allowed, with_set, with_join};
 ghost use Rattle.kid_term.specs.MapSorts.{map_sort as sort_of_map};
 ghost use Rattle.kid_term.specs.declared.operator.MapOp.TheVariants.{Get, Put, Drop, Fill, Submap, Fits, Narrow};

@@ -1,7 +1,8 @@
 ghost use Rattle.std.specs.Prelude.{◌≡◌, map};
 ghost use Rattle.std.specs.Option.{option_map};
 ghost use Rattle.kid_value.specs.SortView.{plain_sort};
-ghost use Rattle.kid_value.specs.PlainSort.{maps, join as join_of};
+ghost use Rattle.kid_value.specs.PlainSort.{maps};
+ghost use Rattle.kid_value.specs.SortOrder.{join as join_of};
 ghost use Rattle.kid_term.specs.Sorted.{Kind, allowed, with_join};
 ghost use Rattle.kid_term.specs.WordSorts.{word_sort as sort_of_word, row_parts as parts_of_row, rows as sort_of_rows, keys_from as keys_upward, given};
 ghost use Rattle.kid_term.specs.declared.operator.WordOp.TheVariants.{Renc, Rdec, Rget, Rput, Rdrop};

@@ -3,7 +3,7 @@ ghost use Rattle.kid_value.specs.SortView.{plain_sort};
 ghost use Rattle.kid_value.specs.Rows.Kinds.{natural as natural_of};
 ghost use Rattle.kid_term.specs.PlainTerm.{term_row};
 ghost use Rattle.kid_term.specs.TermView.{plain_term};
-ghost use Rattle.kid_value.specs.PlainSort.{join as join_of};
+ghost use Rattle.kid_value.specs.SortOrder.{join as join_of};
 ghost use Rattle.kid_value.specs.Rows.Word.{word_size};
 ghost use Rattle.kid_term.specs.Sorted.{Kind, allowed, with_join};
 ghost use Rattle.kid_term.specs.WordSorts.{word_sort as sort_of_word, words as sort_of_words, word_bound as bound_of_word, bit_count as bits_in, keys_from as keys_upward, given};

@@ -1,5 +1,5 @@
 -- The values of the binders have their sorts, and their sums stay small.
-use Rattle.std.proofs.Common.{◌≡◌, ℕ, zero, suc, ◌+◌, ◌≤◌, ℤ, ◌+ℤ◌, Bool, true, false, List, [], ◌∷◌, Ok, Err, refl, sym, ap, ◌∙◌, cond, subst, arith, length, map}
+use Rattle.std.proofs.Common.{◌≡◌, ℕ, ◌≤◌, ℤ, Bool, true, List, [], ◌∷◌, Ok, refl, ap, ◌∙◌, subst, arith, length, map}
 use Rattle.std.specs.Prelude.{pos, negsuc, ◌*ℤ◌, ◌≤ℤ◌, ◌&&◌, int_le, filter}
 use Rattle.std.specs.List.{list_all, list_any}
 use Rattle.std.specs.Int.{int_min, int_max}
@@ -7,23 +7,27 @@ use Rattle.std.proofs.Math.IntN.{zero-*ℤ}
 use Rattle.std.proofs.lemmas.Int.{ints as int_rules, clamps}
 use Rattle.std.proofs.lemmas.List.{length-map}
 use Rattle.kid_value.specs.PlainValue.{PlainValue, int, bool}
-use Rattle.kid_value.specs.PlainSort.{PlainSort, never, bools, ints, pairs, sets, seqs, maps, has_sort, is_allowed, is_bounded, count_of}
-use Rattle.kid_value.specs.Rows.{truth_of, total, set_from}
+use Rattle.kid_value.specs.PlainSort.{PlainSort, never, bools, ints, pairs, sets, seqs, maps}
+use Rattle.kid_value.specs.SortLimits.{is_allowed}
+use Rattle.kid_value.specs.SortCount.{count_of}
+use Rattle.kid_value.specs.Rows.Parts.{truth_of, total}
+use Rattle.kid_value.specs.Rows.Kinds.{set_from}
 use Rattle.kid_value.specs.ValueSet.{set_of}
-use Rattle.kid_value.proofs.SortLemmas.{and_parts, and_both}
+use Rattle.kid_value.proofs.SortLemmas.{and_parts}
 use Rattle.kid_value.proofs.ValueSetLaws.{Ascends-filter, Ascends-union}
 use Rattle.kid_term.specs.declared.operator.Binder.{Binder}
 use Rattle.kid_term.specs.declared.operator.Binder.TheVariants as binder
 use Rattle.kid_term.specs.Eval.{binder_value}
-use Rattle.kid_term.specs.Small.{is_small, sums_small, binder_small}
-use Rattle.kid_term.specs.Sorted.{Sorted, Kind, allowed, with_bool}
+use Rattle.kid_term.specs.Small.{binder_small}
+use Rattle.kid_value.specs.Rows.Sums.{sums_small}
+use Rattle.kid_term.specs.Sorted.{allowed}
 use Rattle.kid_term.specs.Sorting.{binder_sort, sum_sort}
 use Rattle.kid_term.specs.Fitting.{IsOfSort}
 use Rattle.kid_term.proofs.Inversions.{ok, ok_same, allowed_ok, with_bool_ok, none_of}
 use Rattle.kid_term.proofs.LogicSound.{Sound, truth_sound}
 use Rattle.kid_term.proofs.NumberSound.{interval_sound}
 use Rattle.kid_term.proofs.Members.{Each, Each-filter, Each-union, Each-map, AreMembers, set_sound}
-use Rattle.kid_term.proofs.Sums.{SumLies, total_lies, sums_stay, multiples_fall, multiples_grow}
+use Rattle.kid_term.proofs.Sums.{total_lies, sums_stay, multiples_fall, multiples_grow}
 use Rattle.kid_term.proofs.Counting.{members_counted}
 
 -- what is shown of a value, and whether its evaluation stays small

@@ -1,5 +1,5 @@
 -- A set of values of a sort has no more members than the sort has values.
-use Rattle.std.proofs.Common.{◌≡◌, ℕ, zero, suc, ◌+◌, ◌-◌, ◌*◌, ◌^◌, ◌<◌, ◌≤◌, ℤ, Bool, true, false, List, [], ◌∷◌, Ordering, refl, sym, ap, ◌∙◌, cond, subst, arith, length, min}
+use Rattle.std.proofs.Common.{◌≡◌, ℕ, suc, ◌+◌, ◌*◌, ◌^◌, ◌<◌, ◌≤◌, ℤ, Bool, true, false, List, ◌∷◌, Ordering, refl, sym, ap, ◌∙◌, subst, arith, length, min}
 use Rattle.std.specs.declared.cmp.Ordering.TheVariants.{Less, Equal, Greater}
 use Rattle.std.specs.Ordering.{int_cmp, bool_cmp, ordering_then}
 use Rattle.std.specs.Prelude.{pos, negsuc, ◌≤ℤ◌, ◌<ℤ◌, ◌&&◌, int_le, nat_le}
@@ -10,11 +10,13 @@ use Rattle.std.proofs.lemmas.Bool.Decides.{nat_tests}
 use Rattle.std.proofs.lemmas.Nat.{mul-add-lt}
 use Rattle.std.proofs.Math.Nat.{mul-le-mul_right}
 use Rattle.kid_value.specs.PlainValue.{PlainValue, int, bool, pair, set, seq, map_of, PlainValues, PlainEntries, no_entry, entry, items, entries}
-use Rattle.kid_value.specs.PlainSort.{PlainSort, never, bools, ints, pairs, sets, seqs, maps, has_sort, sort_depth, is_bounded, is_allowed, count_of, interval_count, sequence_count}
-use Rattle.kid_value.specs.Canonical.{IsCanonical, AreCanonical, EntriesAreCanonical}
+use Rattle.kid_value.specs.PlainSort.{PlainSort, never, bools, ints, pairs, sets, seqs, maps, has_sort}
+use Rattle.kid_value.specs.SortLimits.{sort_depth, is_bounded, is_allowed}
+use Rattle.kid_value.specs.SortCount.{count_of, interval_count, sequence_count}
+use Rattle.kid_value.specs.Canonical.{EntriesAreCanonical}
 use Rattle.kid_value.specs.ValueMap.{keys}
 use Rattle.kid_value.specs.ValueCount.{value_count}
-use Rattle.kid_value.specs.ValueOrder.{value_cmp, seq_cmp, set_cmp, map_cmp}
+use Rattle.kid_value.specs.ValueOrder.{value_cmp}
 use Rattle.kid_value.specs.ValueSet.{Ascends}
 use Rattle.kid_value.proofs.CountLemmas.{count_of-counts}
 use Rattle.kid_value.proofs.SortLemmas.{and_parts}

@@ -1,7 +1,7 @@
 -- Applications are equal where their heads and arguments are, and each term has a node.
-use Rattle.std.proofs.Common.{◌≡◌, ℕ, ◌+◌, ◌<◌, Bool, true, false, List, [], ◌∷◌, refl, sym, ap, ◌∙◌, arith}
+use Rattle.std.proofs.Common.{◌≡◌, ◌<◌, Bool, List, [], ◌∷◌, refl, sym, ap, ◌∙◌, arith}
 use Rattle.std.specs.Prelude.{IsTrue, ◌↔◌}
-use Rattle.kid_term.specs.PlainTerm.{PlainHead, PlainTerm, var, number, truth, app, bind, PlainTerms, no_term, term, terms, term_row, node_count}
+use Rattle.kid_term.specs.PlainTerm.{PlainHead, PlainTerm, var, number, truth, app, bind, PlainTerms, terms, term_row, node_count}
 
 pub some_node : (t : PlainTerm) → 0 < node_count t
 some_node (var x) = omega arith

@@ -1,30 +1,33 @@
 -- A sorted term keeps its value where a subterm is exchanged for one that has the same value wherever it counts.
-use Rattle.std.proofs.Common.{◌≡◌, ℕ, zero, suc, Bool, true, false, List, [], ◌∷◌, Result, Ok, refl, sym, ap, ◌∙◌, cond, subst, map}
+use Rattle.std.proofs.Common.{◌≡◌, ℕ, zero, suc, Bool, true, false, List, [], ◌∷◌, Ok, refl, sym, ap, ◌∙◌, cond, subst, map}
 use Rattle.std.specs.Prelude.{not, ◌&&◌, ◌||◌, filter}
 use Rattle.std.specs.List.{list_all, list_any}
 use Rattle.kid_value.specs.PlainValue.{PlainValue, int, bool, pair, set, seq, map_of}
 use Rattle.kid_value.specs.PlainSort.{PlainSort, sets}
 use Rattle.kid_value.specs.ValueSet.{is_member, value_eq, set_of}
-use Rattle.kid_value.specs.Rows.{truth_of, members_of, set_from, total}
+use Rattle.kid_value.specs.Rows.Parts.{truth_of, members_of, total}
+use Rattle.kid_value.specs.Rows.Kinds.{set_from}
 use Rattle.kid_value.proofs.ValueSetLaws.{value_eq-itself, value_eq-true}
-use Rattle.kid_term.specs.PlainTerm.{PlainHead, op, call, cast, PlainTerm, var, number, truth, app, bind, PlainTerms, no_term, term}
-use Rattle.kid_term.specs.declared.operator.Op.TheVariants.{Logic, Number}
-use Rattle.kid_term.specs.declared.operator.LogicOp.TheVariants.{Not, And, Or, Implies, If, Eq}
+use Rattle.kid_term.specs.PlainTerm.{PlainHead, op, PlainTerm, var, number, truth, app, bind, PlainTerms, no_term, term}
+use Rattle.kid_term.specs.declared.operator.Op.TheVariants.{Logic}
+use Rattle.kid_term.specs.declared.operator.LogicOp.TheVariants.{And, Implies, If}
 use Rattle.kid_term.specs.declared.operator.Binder.{Binder}
 use Rattle.kid_term.specs.declared.operator.Binder.TheVariants as binder
 use Rattle.kid_term.specs.Names.{Names, PlainDef, latest_first}
 use Rattle.kid_term.specs.Laws.{ExchangesKeepValues}
+use Rattle.kid_value.specs.Rows.Logic as row
 use Rattle.kid_term.specs.LogicRows.{logic_value}
 use Rattle.kid_term.specs.Eval.{Env, Calls, eval, evals, head_value, binder_value, calls_of}
 use Rattle.kid_term.specs.Small.{Checks, checks_of}
-use Rattle.kid_term.specs.Places.{first_of, put_at, put_among, Guard, SameAt, SameAmong}
-use Rattle.kid_term.specs.Sorted.{Sorted, with_set, ◌>>=◌}
-use Rattle.kid_term.specs.Sorting.{head_sort, binder_sort, unshadowed, least_sort, least_sorts}
+use Rattle.kid_term.specs.Contexts.{first_of, Guard, SameAt, SameAmong}
+use Rattle.kid_term.specs.Places.{put_at, put_among}
+use Rattle.kid_term.specs.Sorted.{◌>>=◌}
+use Rattle.kid_term.specs.Sorting.{head_sort, least_sort, least_sorts}
 use Rattle.kid_term.specs.Written.{Numbers, written}
 use Rattle.kid_term.specs.Fitting.{IsOfSort, AreOfSorts, Fits, AreAllowed}
-use Rattle.kid_term.proofs.Inversions.{bind_ok, ok, with_set_ok}
+use Rattle.kid_term.proofs.Inversions.{bind_ok, ok}
 use Rattle.kid_term.proofs.LogicSound.{two_bools_ok}
-use Rattle.kid_term.proofs.Members.{Each, AreMembers, members_sound}
+use Rattle.kid_term.proofs.Members.{Each, members_sound}
 use Rattle.kid_term.proofs.SortedValue.{CallsFit, Fits-more, AreAllowed-more, element_allowed, evaluates, all_evaluate, binder_ok, calls_fit, sort_of_ok}
 
 or_true : (b c : Bool) → c ≡ true → (b || c) ≡ true
@@ -78,21 +81,24 @@ Each-member P v (w ∷ vs) h m = by (value_eq v w) refl m (Each-member P v vs h.
 
 -- ---- where the guard of a child does not hold, its value does not count
 
+and_at_false : (v w : PlainValue) → truth_of v ≡ false → row.and v w ≡ bool false
+and_at_false (bool true) w e = cc
+and_at_false (bool false) (int n) e = refl
+and_at_false (bool false) (bool q) e = refl
+and_at_false (bool false) (pair a b) e = refl
+and_at_false (bool false) (set a) e = refl
+and_at_false (bool false) (seq a) e = refl
+and_at_false (bool false) (map_of a) e = refl
+and_at_false (int n) w e = refl
+and_at_false (pair a b) w e = refl
+and_at_false (set a) w e = refl
+and_at_false (seq a) w e = refl
+and_at_false (map_of a) w e = refl
+
 and_false : (v : PlainValue) (vs : List PlainValue) → truth_of v ≡ false → logic_value And (v ∷ vs) ≡ bool false
-and_false (bool true) vs e = cc
-and_false (bool false) [] e = refl
-and_false (bool false) (int n ∷ vs) e = refl
-and_false (bool false) (bool q ∷ []) e = refl
-and_false (bool false) (bool q ∷ w ∷ vs) e = refl
-and_false (bool false) (pair a b ∷ vs) e = refl
-and_false (bool false) (set a ∷ vs) e = refl
-and_false (bool false) (seq a ∷ vs) e = refl
-and_false (bool false) (map_of a ∷ vs) e = refl
-and_false (int n) vs e = refl
-and_false (pair a b) vs e = refl
-and_false (set a) vs e = refl
-and_false (seq a) vs e = refl
-and_false (map_of a) vs e = refl
+and_false v [] e = refl
+and_false v (w ∷ []) e = and_at_false v w e
+and_false v (w ∷ x ∷ vs) e = refl
 
 same_element : (a b : PlainSort) → ok (sets a) ≡ ok (sets b) → a ≡ b
 same_element a b p = cc
@@ -102,26 +108,32 @@ implies_true : (v : PlainValue) (vs : List PlainValue) (p q : Bool) → truth_of
 implies_true v vs p q e f =
     let g : p ≡ false = sym (ap (λ l. truth_of (first_of l)) f) ∙ e in ap (logic_value Implies) f ∙ ap (λ z. bool (not z || q)) g
 
+choose_at_false : (v x y z : PlainValue) → truth_of v ≡ false → row.choose v x z ≡ row.choose v y z
+choose_at_false (bool true) x y z e = cc
+choose_at_false (bool false) x y z e = refl
+choose_at_false (int n) x y z e = refl
+choose_at_false (pair a b) x y z e = refl
+choose_at_false (set a) x y z e = refl
+choose_at_false (seq a) x y z e = refl
+choose_at_false (map_of a) x y z e = refl
+
+choose_at_true : (v w x y : PlainValue) → truth_of v ≡ true → row.choose v w x ≡ row.choose v w y
+choose_at_true (bool true) w x y e = refl
+choose_at_true (bool false) w x y e = cc
+choose_at_true (int n) w x y e = refl
+choose_at_true (pair a b) w x y e = refl
+choose_at_true (set a) w x y e = refl
+choose_at_true (seq a) w x y e = refl
+choose_at_true (map_of a) w x y e = refl
+
 if_first : (v x y : PlainValue) (vs : List PlainValue) → truth_of v ≡ false → logic_value If (v ∷ x ∷ vs) ≡ logic_value If (v ∷ y ∷ vs)
-if_first (bool true) x y vs e = cc
-if_first (bool false) x y [] e = refl
-if_first (bool false) x y (w ∷ []) e = refl
-if_first (bool false) x y (w ∷ z ∷ vs) e = refl
-if_first (int n) x y vs e = refl
-if_first (pair a b) x y vs e = refl
-if_first (set a) x y vs e = refl
-if_first (seq a) x y vs e = refl
-if_first (map_of a) x y vs e = refl
+if_first v x y [] e = refl
+if_first v x y (z ∷ []) e = choose_at_false v x y z e
+if_first v x y (z ∷ u ∷ vs) e = refl
 
 if_second : (v w x y : PlainValue) (vs : List PlainValue) → truth_of v ≡ true → logic_value If (v ∷ w ∷ x ∷ vs) ≡ logic_value If (v ∷ w ∷ y ∷ vs)
-if_second (bool true) w x y [] e = refl
-if_second (bool true) w x y (z ∷ vs) e = refl
-if_second (bool false) w x y vs e = cc
-if_second (int n) w x y vs e = refl
-if_second (pair a b) w x y vs e = refl
-if_second (set a) w x y vs e = refl
-if_second (seq a) w x y vs e = refl
-if_second (map_of a) w x y vs e = refl
+if_second v w x y [] e = choose_at_true v w x y e
+if_second v w x y (z ∷ vs) e = refl
 
 module _ (known : List PlainDef) (calls : Calls) (checks : Checks) (fit : CallsFit known calls checks) where
   -- the value of an application, where one child's value changes only where the guard does not hold

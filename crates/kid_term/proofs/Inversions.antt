@@ -1,10 +1,11 @@
 -- What a sort that was found says of the sorts and values below it.
-use Rattle.std.proofs.Common.{◌≡◌, ℕ, ℤ, Bool, true, false, List, [], ◌∷◌, Option, Some, None, Result, Ok, Err, refl, sym, ap, ◌∙◌, cond, subst, arith}
-use Rattle.std.specs.Prelude.{◌≤ℤ◌, ◌&&◌, int_le, pos, negsuc}
+use Rattle.std.proofs.Common.{◌≡◌, ℤ, Bool, true, false, List, [], ◌∷◌, Option, Some, None, Result, Ok, Err, refl, sym, ap, ◌∙◌, cond, subst, arith}
+use Rattle.std.specs.Prelude.{◌≤ℤ◌, ◌&&◌, int_le}
 use Rattle.std.proofs.lemmas.Int.{ints as int_rules}
 use Rattle.kid_value.specs.PlainValue.{PlainValue, int, bool, pair, set, seq, map_of}
-use Rattle.kid_value.specs.PlainSort.{PlainSort, never, bools, ints, pairs, sets, seqs, maps, has_sort, is_allowed}
-use Rattle.kid_term.specs.Sorted.{Fault, Sorted, Kind, Bounds, ◌>>=◌, allowed, with_one, with_two, with_three, with_four, with_bool, with_ints, with_set, with_join}
+use Rattle.kid_value.specs.PlainSort.{PlainSort, never, bools, ints, sets, has_sort}
+use Rattle.kid_value.specs.SortLimits.{is_allowed}
+use Rattle.kid_term.specs.Sorted.{Fault, Sorted, Bounds, ◌>>=◌, allowed, with_one, with_two, with_three, with_four, with_bool, with_ints, with_set, with_join}
 use Rattle.kid_term.specs.NumberSorts.{two_ints}
 use Rattle.kid_term.specs.Fitting.{IsOfSort, AreOfSorts}
 

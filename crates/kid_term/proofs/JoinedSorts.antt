@@ -1,7 +1,8 @@
 -- Values of two sorts, and of many, are of the sort above them.
 use Rattle.std.proofs.Common.{◌≡◌, List, [], ◌∷◌, Option, Some, None, refl, subst, arith, length}
 use Rattle.kid_value.specs.PlainValue.{PlainValue}
-use Rattle.kid_value.specs.PlainSort.{PlainSort, join}
+use Rattle.kid_value.specs.PlainSort.{PlainSort}
+use Rattle.kid_value.specs.SortOrder.{join}
 use Rattle.kid_value.specs.Join.{IsJoin}
 use Rattle.kid_value.proofs.JoinLemmas.{join-is}
 use Rattle.kid_term.specs.Sorted.{allowed, join_over, join_all}

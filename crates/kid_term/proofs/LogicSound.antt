@@ -1,8 +1,10 @@
 -- The values of the operators on truth values have their sorts.
-use Rattle.std.proofs.Common.{◌≡◌, Bool, true, false, List, [], ◌∷◌, Option, Some, None, Ok, refl, sym, ap, ◌∙◌, cond, subst}
+use Rattle.std.proofs.Common.{◌≡◌, Bool, true, false, List, [], ◌∷◌, Some, Ok, refl, sym, ap, ◌∙◌, cond, subst}
 use Rattle.std.specs.Prelude.{not, ◌&&◌, ◌||◌}
 use Rattle.kid_value.specs.PlainValue.{PlainValue, bool}
-use Rattle.kid_value.specs.PlainSort.{PlainSort, bools, has_sort, is_subsort, join, is_allowed}
+use Rattle.kid_value.specs.PlainSort.{PlainSort, bools, has_sort}
+use Rattle.kid_value.specs.SortOrder.{is_subsort, join}
+use Rattle.kid_value.specs.SortLimits.{is_allowed}
 use Rattle.kid_value.specs.ValueSet.{value_eq}
 use Rattle.kid_value.specs.Join.{IsJoin}
 use Rattle.kid_value.proofs.JoinLemmas.{join-is}

@@ -5,12 +5,13 @@ use Rattle.std.specs.Prelude.{◌&&◌, not, filter, unwrap_or}
 use Rattle.std.specs.List.{list_all}
 use Rattle.kid_value.specs.Canonical.{IsCanonical, EntriesAreCanonical}
 use Rattle.kid_value.specs.PlainValue.{PlainValue, set, map_of, PlainEntries, no_entry, entry, items, entries}
-use Rattle.kid_value.specs.PlainSort.{PlainSort, never, bools, sets, maps, has_sort, join}
+use Rattle.kid_value.specs.PlainSort.{PlainSort, never, bools, sets, maps, has_sort}
+use Rattle.kid_value.specs.SortOrder.{join}
 use Rattle.kid_value.specs.Rows.Kinds.{map_from, set_from, set_of_all}
 use Rattle.kid_value.specs.Rows.Map.{has_value, has_value_in, cut_down}
 use Rattle.kid_value.specs.ValueMap.{keys, lookup, put_entry, put_entry_by}
 use Rattle.kid_value.specs.ValueOrder.{value_cmp}
-use Rattle.kid_value.specs.ValueSet.{value_eq, is_member, Ascends, set_of}
+use Rattle.kid_value.specs.ValueSet.{value_eq, is_member, set_of}
 use Rattle.kid_value.proofs.RowCanonical.{IsCanonical-put, IsCanonical-drop, IsCanonical-fill, IsCanonical-narrow}
 use Rattle.kid_value.proofs.RowLemmas.{entries_table}
 use Rattle.kid_value.proofs.SortLemmas.{and_parts, and_both}
@@ -18,7 +19,7 @@ use Rattle.kid_value.proofs.ValueSetLaws.{Ascends-union, Ascends-filter}
 use Rattle.kid_term.specs.declared.operator.MapOp.{MapOp}
 use Rattle.kid_term.specs.declared.operator.MapOp.TheVariants.{Map, Dom, Ran, Get, Put, Drop, Fill, Submap, Fits, Narrow}
 use Rattle.kid_term.specs.MapRows.{map_value}
-use Rattle.kid_term.specs.MapSorts.{map_sort, with_none, with_key, two_maps}
+use Rattle.kid_term.specs.MapSorts.{map_sort, with_key, two_maps}
 use Rattle.kid_term.specs.Sorted.{Sorted, allowed, with_map, with_set, with_join}
 use Rattle.kid_term.specs.Fitting.{IsOfSort, AreOfSorts}
 use Rattle.kid_term.proofs.Inversions.{ok, ok_same, with_one_ok, with_two_ok, with_three_ok, with_set_ok, with_join_ok, one_value, two_values, three_values}

@@ -1,14 +1,15 @@
 -- What holds of each of a list's values, and the sets of such values.
 use Rattle.std.proofs.Common.{◌≡◌, Bool, true, false, List, [], ◌∷◌, Ordering, refl, sym, ap, ◌∙◌, cond, subst, map}
 use Rattle.std.specs.declared.cmp.Ordering.TheVariants.{Less, Equal, Greater}
-use Rattle.std.specs.Prelude.{◌&&◌, filter}
+use Rattle.std.specs.Prelude.{filter}
 use Rattle.std.specs.List.{list_all}
 use Rattle.kid_value.specs.PlainValue.{PlainValue, int, bool, pair, set, seq, map_of, PlainValues, none, more, items, row}
 use Rattle.kid_value.specs.PlainSort.{PlainSort, sets, has_sort}
 use Rattle.kid_value.specs.Canonical.{AreCanonical}
 use Rattle.kid_value.specs.ValueOrder.{value_cmp}
 use Rattle.kid_value.specs.ValueSet.{Ascends, put, put_by, union}
-use Rattle.kid_value.specs.Rows.{members_of, set_from}
+use Rattle.kid_value.specs.Rows.Parts.{members_of}
+use Rattle.kid_value.specs.Rows.Kinds.{set_from}
 use Rattle.kid_value.proofs.RowLemmas.{items_row}
 use Rattle.kid_value.proofs.SortLemmas.{and_parts, and_both}
 use Rattle.kid_term.specs.Fitting.{IsOfSort}

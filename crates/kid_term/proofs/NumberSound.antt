@@ -1,17 +1,19 @@
 -- The values of the operators on integers have their sorts.
-use Rattle.std.proofs.Common.{◌≡◌, ℤ, ◌+ℤ◌, Bool, true, false, List, [], ◌∷◌, Ok, Err, refl, sym, ap, ◌∙◌, cond, subst, arith}
-use Rattle.std.specs.Prelude.{pos, ◌-ℤ◌, ◌*ℤ◌, ◌-◌, ◌≤ℤ◌, ◌&&◌, int_le, int_lt}
+use Rattle.std.proofs.Common.{◌≡◌, ℤ, ◌+ℤ◌, Bool, true, false, List, [], ◌∷◌, Ok, refl, sym, ap, ◌∙◌, cond, subst, arith}
+use Rattle.std.specs.Prelude.{pos, neg_ℤ, ◌-ℤ◌, ◌*ℤ◌, ◌-◌, ◌≤ℤ◌, ◌&&◌, int_le, int_lt}
 use Rattle.std.specs.Int.{int_min, int_max, int_div_euclid}
+use Rattle.std.proofs.Math.IntN.{+ℤ_idl}
 use Rattle.std.proofs.lemmas.Int.{ints as int_rules, clamps}
-use Rattle.kid_value.specs.PlainValue.{PlainValue, int, bool}
-use Rattle.kid_value.specs.PlainSort.{PlainSort, bools, ints, has_sort, is_allowed}
+use Rattle.kid_value.specs.PlainValue.{PlainValue, int}
+use Rattle.kid_value.specs.PlainSort.{PlainSort, bools, ints, has_sort}
 use Rattle.kid_term.specs.declared.operator.NumberOp.{NumberOp}
 use Rattle.kid_term.specs.declared.operator.NumberOp.TheVariants.{Le, Lt, Add, Sub, Neg, Mul, Div, Mod, Min, Max}
-use Rattle.kid_term.specs.NumberRows.{number_value, quotient, rest}
-use Rattle.kid_term.specs.Sorted.{Sorted, Bounds, allowed, with_ints}
+use Rattle.kid_term.specs.NumberRows.{number_value}
+use Rattle.kid_value.specs.Rows.Number.{quotient, remainder}
+use Rattle.kid_term.specs.Sorted.{allowed, with_ints}
 use Rattle.kid_term.specs.NumberSorts.{number_sort, product_sort, quotient_sort, rest_sort, least_of_four, greatest_of_four, greatest_size}
 use Rattle.kid_term.specs.Fitting.{IsOfSort, AreOfSorts}
-use Rattle.kid_term.proofs.Inversions.{ok, ok_same, allowed_ok, with_one_ok, with_ints_ok, one_value, int_of, TwoInts, two_ints_ok}
+use Rattle.kid_term.proofs.Inversions.{ok, allowed_ok, with_one_ok, with_ints_ok, one_value, int_of, two_ints_ok}
 use Rattle.kid_term.proofs.LogicSound.{Sound, truth_sound}
 use Rattle.kid_term.proofs.Products.{above_corners, below_corners}
 use Rattle.kid_term.proofs.Quotients.{quotient_floors, quotient_size, rest_within}
@@ -61,7 +63,7 @@ neg_sound ss vs s p h =
     let w = one_value r.0 vs (subst (λ z. AreOfSorts z vs) r.1 h) in
     let i = int_of x.0 x.1 w.0 (ap (λ z. has_sort z w.0) (sym x.2) ∙ w.2.has) in
     at_values Neg vs (int i.0 ∷ []) s (w.1 ∙ (λ o. i.1 o ∷ []))
-    (interval_sound _ _ (pos 0 -ℤ i.0) s (opposite x.0 x.1 i.0 i.2 i.3).0 (opposite x.0 x.1 i.0 i.2 i.3).1 x.3)
+    (subst (λ z. Sound s (int z)) (+ℤ_idl (neg_ℤ i.0)) (interval_sound _ _ (pos 0 -ℤ i.0) s (opposite x.0 x.1 i.0 i.2 i.3).0 (opposite x.0 x.1 i.0 i.2 i.3).1 x.3))
   where
     opposite : (a b n : ℤ) → a ≤ℤ n → n ≤ℤ b → ((pos 0 -ℤ b) ≤ℤ (pos 0 -ℤ n)) × ((pos 0 -ℤ n) ≤ℤ (pos 0 -ℤ a))
     opposite a b n p q = (omega (arith, int_rules), omega (arith, int_rules))
@@ -73,8 +75,8 @@ module _ (a b c d m n : ℤ) (s : PlainSort) (p : a ≤ℤ m) (q : m ≤ℤ b) (
   difference_sound : allowed (ints (a -ℤ d) (b -ℤ c)) ≡ Ok s → Sound s (int (m -ℤ n))
   difference_sound e = interval_sound (a -ℤ d) (b -ℤ c) (m -ℤ n) s (omega (arith, int_rules)) (omega (arith, int_rules)) e
 
-  rest_sound : allowed (rest_sort c d) ≡ Ok s → Sound s (int (rest m n))
-  rest_sound e = let x = rest_within c d m n r t in interval_sound (pos 0) (pos (greatest_size c d - 1)) (rest m n) s x.0 x.1 e
+  rest_sound : allowed (rest_sort c d) ≡ Ok s → Sound s (int (remainder m n))
+  rest_sound e = let x = rest_within c d m n r t in interval_sound (pos 0) (pos (greatest_size c d - 1)) (remainder m n) s x.0 x.1 e
 
   min_sound : allowed (ints (int_min a c) (int_min b d)) ≡ Ok s → Sound s (int (int_min m n))
   min_sound e = interval_sound (int_min a c) (int_min b d) (int_min m n) s (omega (arith, int_rules, clamps)) (omega (arith, int_rules, clamps)) e

@@ -1,12 +1,12 @@
 -- Quotients and rests of integers between bounds.
-use Rattle.std.proofs.Common.{◌≡◌, ℕ, zero, suc, ◌+◌, ◌-◌, ◌*◌, ◌/◌, ◌%◌, ◌<◌, ◌≤◌, max, Bool, true, false, ◌⊎◌, inl, inr, cond, refl, sym, ap, ◌∙◌, subst, arith, rules}
-use Rattle.std.specs.Prelude.{ℤ, pos, negsuc, neg_ℤ, ◌-ℤ◌, ◌≤ℤ◌, int_le, unsigned_abs}
+use Rattle.std.proofs.Common.{◌≡◌, ℕ, zero, suc, ◌-◌, ◌/◌, ◌%◌, ◌<◌, ◌≤◌, true, false, ◌⊎◌, inl, inr, cond, refl, sym, ap, subst, arith}
+use Rattle.std.specs.Prelude.{ℤ, pos, negsuc, neg_ℤ, ◌-ℤ◌, ◌≤ℤ◌, unsigned_abs}
 use Rattle.std.specs.Int.{int_min, int_max, int_div_euclid, int_rem_euclid}
 use Rattle.std.specs.Ordering.{int_eq}
 use Rattle.std.proofs.Math.Nat.{div-le_self, div-mul-le_self, mul-le-mul_left, mod-lt}
 use Rattle.std.proofs.lemmas.Nat.{le-div}
 use Rattle.std.proofs.lemmas.Int.{ints as int_rules, clamps}
-use Rattle.kid_term.specs.NumberRows.{quotient, rest}
+use Rattle.kid_value.specs.Rows.Number.{quotient, remainder}
 use Rattle.kid_term.specs.NumberSorts.{greatest_size}
 
 div_grows : (k x y : ℕ) → 0 < k → x ≤ y → x / k ≤ y / k
@@ -101,13 +101,13 @@ rest_below : (m n : ℤ) → 0 < unsigned_abs n → (k : ℕ) × (int_rem_euclid
 rest_below (pos x) n h = (x % unsigned_abs n, refl, mod-lt x h)
 rest_below (negsuc x) n h = (unsigned_abs n - 1 - x % unsigned_abs n, refl, omega arith)
 
-pub rest_within : (c d m n : ℤ) → c ≤ℤ n → n ≤ℤ d → LiesBetween (pos 0) (pos (greatest_size c d - 1)) (rest m n)
+pub rest_within : (c d m n : ℤ) → c ≤ℤ n → n ≤ℤ d → LiesBetween (pos 0) (pos (greatest_size c d - 1)) (remainder m n)
 rest_within c d m n p q = by (zero_or n)
   where
     size : unsigned_abs n ≤ greatest_size c d
     size = size_within c d n p q
 
-    by : ((int_eq n (pos 0) ≡ true) × (n ≡ pos 0)) ⊎ ((int_eq n (pos 0) ≡ false) × (0 < unsigned_abs n)) → LiesBetween (pos 0) (pos (greatest_size c d - 1)) (rest m n)
+    by : ((int_eq n (pos 0) ≡ true) × (n ≡ pos 0)) ⊎ ((int_eq n (pos 0) ≡ false) × (0 < unsigned_abs n)) → LiesBetween (pos 0) (pos (greatest_size c d - 1)) (remainder m n)
     by (inl z) = rw (z.0) (omega (arith, int_rules), omega (arith, int_rules))
     by (inr z) =
         let r = rest_below m n z.1 in

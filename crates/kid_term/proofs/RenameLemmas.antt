@@ -1,8 +1,8 @@
 -- A binder keeps its value under another name.
-use Rattle.std.proofs.Common.{◌≡◌, ℕ, Bool, true, false, List, [], ◌∷◌, refl, sym, ap, ◌∙◌, cond, subst, Result, Ok, Err}
+use Rattle.std.proofs.Common.{◌≡◌, ℕ, Bool, true, false, List, ◌∷◌, refl, sym, ap, ◌∙◌, cond, subst, Result, Ok, Err}
 use Rattle.std.specs.Prelude.{not, ◌&&◌, ◌||◌, IfOk}
 use Rattle.kid_value.specs.PlainValue.{PlainValue}
-use Rattle.kid_value.specs.Rows.{members_of}
+use Rattle.kid_value.specs.Rows.Parts.{members_of}
 use Rattle.kid_term.specs.PlainTerm.{PlainTerm, var, number, truth, app, bind, PlainTerms, no_term, term}
 use Rattle.kid_term.specs.declared.operator.Binder.{Binder}
 use Rattle.kid_term.specs.Names.{same_name}

@@ -1,5 +1,5 @@
 -- The values of the operators on rows have their sorts, and so have those of all operators on words and rows.
-use Rattle.std.proofs.Common.{◌≡◌, ℕ, zero, suc, ◌+◌, ◌≤◌, ◌<◌, ℤ, ◌+ℤ◌, Bool, true, false, List, [], ◌∷◌, Option, Some, None, Ok, Err, refl, sym, ap, ◌∙◌, cond, subst, arith, length, map}
+use Rattle.std.proofs.Common.{◌≡◌, ℕ, zero, suc, ◌≤◌, ℤ, ◌+ℤ◌, Bool, true, false, List, [], ◌∷◌, Option, Some, None, Ok, refl, sym, ap, ◌∙◌, cond, subst, arith, length, map}
 use Rattle.std.specs.Prelude.{pos, ◌-ℤ◌, ◌≤ℤ◌, ◌&&◌, nat_le, unwrap_or, set}
 use Rattle.std.specs.List.{range_with_len}
 use Rattle.std.specs.Option.{option_and_then}
@@ -8,12 +8,13 @@ use Rattle.std.proofs.lemmas.Int.{ints as int_rules}
 use Rattle.std.proofs.lemmas.List.{length-set}
 use Rattle.std.proofs.lemmas.List.FromFn.{length-map-range_with_len}
 use Rattle.kid_value.specs.PlainValue.{PlainValue, int, seq, map_of, PlainValues, items, entries}
-use Rattle.kid_value.specs.PlainSort.{PlainSort, ints, seqs, maps, has_sort, is_subsort, join}
+use Rattle.kid_value.specs.PlainSort.{PlainSort, ints, seqs, maps, has_sort}
+use Rattle.kid_value.specs.SortOrder.{is_subsort, join}
 use Rattle.kid_value.specs.Rows.Kinds.{natural, sequence_from, map_from}
 use Rattle.kid_value.specs.Rows.Word.{key_at, place_above, row_item, first_of_list, item_value, item_of, entry_before, row_entries, item_set}
 use Rattle.kid_value.specs.ValueMap.{lookup}
 use Rattle.kid_value.proofs.RowCanonical.{IsCanonical-rdec}
-use Rattle.kid_value.proofs.SortLemmas.{and_parts, and_both}
+use Rattle.kid_value.proofs.SortLemmas.{and_both}
 use Rattle.kid_term.specs.declared.operator.WordOp.{WordOp}
 use Rattle.kid_term.specs.declared.operator.WordOp.TheVariants.{Wenc, Wdec, Wor, Wand, Wnot, Wcard, Win, Wleast, Renc, Rdec, Rget, Rput, Rdrop}
 use Rattle.kid_term.specs.WordRows.{word_value}
@@ -29,7 +30,7 @@ use Rattle.kid_term.proofs.Counting.{seq_parts}
 use Rattle.kid_term.proofs.JoinedSorts.{allowed_sound, joined, IsOfSort-left, IsOfSort-right, Each-weaker}
 use Rattle.kid_term.proofs.SeqSound.{sequence_sound}
 use Rattle.kid_term.proofs.MapSound.{Perhaps, EachEntry, found, unwrapped, entries_sound, mapped_ok}
-use Rattle.kid_term.proofs.WordSound.{counted, with_keys_ok, key_of_sort, wenc_sound, wdec_sound, wor_sound, wand_sound, wnot_sound, wcard_sound, win_sound, wleast_sound}
+use Rattle.kid_term.proofs.WordSound.{counted, with_keys_ok, wenc_sound, wdec_sound, wor_sound, wand_sound, wnot_sound, wcard_sound, win_sound, wleast_sound}
 use Rattle.kid_term.proofs.WrittenValues.{AreWritten, given_ok}
 
 at_values : (o : WordOp) (vs ws : List PlainValue) (s : PlainSort) → vs ≡ ws → Sound s (word_value o ws) → Sound s (word_value o vs)

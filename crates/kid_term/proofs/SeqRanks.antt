@@ -1,11 +1,11 @@
 -- The numbers of sequences of at most so many items, a shorter one before those that begin with it.
-use Rattle.std.proofs.Common.{◌≡◌, ℕ, zero, suc, ◌+◌, ◌*◌, ◌<◌, ◌≤◌, List, [], ◌∷◌, Ordering, refl, sym, ap, ◌∙◌, subst, arith, length}
+use Rattle.std.proofs.Common.{◌≡◌, ℕ, zero, suc, ◌+◌, ◌*◌, ◌<◌, ◌≤◌, List, [], ◌∷◌, Ordering, refl, ap, arith, length}
 use Rattle.std.specs.declared.cmp.Ordering.TheVariants.{Less, Equal, Greater}
 use Rattle.std.specs.Ordering.{ordering_then}
 use Rattle.std.proofs.lemmas.Nat.{mul-add-lt}
 use Rattle.std.proofs.Math.Nat.{mul-le-mul_right}
 use Rattle.kid_value.specs.PlainValue.{PlainValue, PlainValues, none, more, items}
-use Rattle.kid_value.specs.PlainSort.{sequence_count}
+use Rattle.kid_value.specs.SortCount.{sequence_count}
 use Rattle.kid_value.specs.ValueOrder.{value_cmp, seq_cmp}
 use Rattle.kid_value.proofs.ValueOrderLaws.{value_cmp-equal}
 use Rattle.kid_term.proofs.Members.{Each}

@@ -1,12 +1,13 @@
 -- The values of the operators on sequences have their sorts, and the sums of a sequence stay small.
-use Rattle.std.proofs.Common.{◌≡◌, ℕ, zero, suc, ◌≤◌, ℤ, ◌+ℤ◌, true, List, [], ◌∷◌, ◌++◌, Ok, refl, sym, ap, ◌∙◌, subst, arith, length}
-use Rattle.std.specs.Prelude.{pos, negsuc, ◌&&◌, ◌≤ℤ◌, nat_le, get_or, drop}
+use Rattle.std.proofs.Common.{◌≡◌, ℕ, zero, suc, ◌≤◌, ℤ, true, List, [], ◌∷◌, ◌++◌, Ok, refl, sym, ap, ◌∙◌, subst, arith, length}
+use Rattle.std.specs.Prelude.{pos, negsuc, ◌&&◌, nat_le, get_or, drop}
 use Rattle.std.specs.List.{list_all}
 use Rattle.std.proofs.lemmas.Int.{ints as int_rules}
 use Rattle.std.proofs.lemmas.Bool.Decides.{nat_tests}
 use Rattle.std.proofs.lemmas.List.{length-append, length-drop}
 use Rattle.kid_value.specs.PlainValue.{PlainValue, int, seq, PlainValues, items}
-use Rattle.kid_value.specs.PlainSort.{PlainSort, bools, ints, sets, seqs, has_sort, join}
+use Rattle.kid_value.specs.PlainSort.{PlainSort, bools, ints, sets, seqs, has_sort}
+use Rattle.kid_value.specs.SortOrder.{join}
 use Rattle.kid_value.specs.Rows.Kinds.{sequence_from, natural, set_of_all}
 use Rattle.kid_value.specs.Rows.Seq.{item_at, is_prefix}
 use Rattle.kid_value.specs.ValueSet.{set_of}
@@ -17,7 +18,7 @@ use Rattle.kid_term.specs.declared.operator.SeqOp.{SeqOp}
 use Rattle.kid_term.specs.declared.operator.SeqOp.TheVariants.{Seq, Len, At, Snoc, Rest, Items, Total, Prefix}
 use Rattle.kid_term.specs.SeqRows.{seq_value}
 use Rattle.kid_term.specs.SeqSorts.{seq_sort}
-use Rattle.kid_term.specs.Small.{items_small, sums_small}
+use Rattle.kid_term.specs.Small.{items_small}
 use Rattle.kid_term.specs.Sorted.{Sorted, allowed, with_seq, with_ints, with_join, join_all}
 use Rattle.kid_term.specs.SumSort.{sum_sort}
 use Rattle.kid_term.specs.Fitting.{IsOfSort, AreOfSorts}
@@ -26,7 +27,6 @@ use Rattle.kid_term.proofs.LogicSound.{Sound, truth_sound}
 use Rattle.kid_term.proofs.NumberSound.{interval_sound}
 use Rattle.kid_term.proofs.Members.{Each, Each-union, list_all-Each, AreCanonical-row, set_sound}
 use Rattle.kid_term.proofs.Counting.{seq_parts}
-use Rattle.kid_term.proofs.Sums.{total-same}
 use Rattle.kid_term.proofs.BinderSound.{Evaluates, summed}
 use Rattle.kid_term.proofs.JoinedSorts.{allowed_sound, IsOfSort-left, IsOfSort-right, Each-weaker, Each-join_all, AreOfSorts-length}
 
@@ -140,8 +140,7 @@ total_evaluates ss vs s p h =
     let w = one_value r.0 vs (subst (λ z. AreOfSorts z vs) r.1 h) in
     let q = sequence_ok r.0 w.0 (λ a n. sum_sort n a) s r.2 w.2 in
     let e = summed q.n q.a s (items q.xs) q.gives q.each q.few in
-    subst (λ z. Evaluates s (seq_value Total z) (items_small z)) (sym (w.1 ∙ (λ o. q.is o ∷ [])))
-    (subst (λ z. Evaluates s (int z) (sums_small (pos 0) (items q.xs))) (total-same (items q.xs)) e)
+    subst (λ z. Evaluates s (seq_value Total z) (items_small z)) (sym (w.1 ∙ (λ o. q.is o ∷ []))) e
 
 -- the sum of a sequence stays small, with each sum on the way
 pub total_small : (ss : List PlainSort) (vs : List PlainValue) (s : PlainSort) → seq_sort Total ss ≡ Ok s → AreOfSorts ss vs → items_small vs ≡ true

@@ -1,9 +1,9 @@
 -- The numbers of sets and maps: a place for each member or key, the least member highest.
-use Rattle.std.proofs.Common.{◌≡◌, ℕ, zero, suc, ◌+◌, ◌-◌, ◌*◌, ◌^◌, ◌<◌, ◌≤◌, List, [], ◌∷◌, Ordering, refl, sym, ap, ◌∙◌, subst, arith, map}
+use Rattle.std.proofs.Common.{◌≡◌, ℕ, suc, ◌+◌, ◌-◌, ◌*◌, ◌^◌, ◌<◌, List, [], ◌∷◌, Ordering, refl, ap, subst, arith}
 use Rattle.std.specs.declared.cmp.Ordering.TheVariants.{Less, Equal, Greater}
 use Rattle.std.specs.Ordering.{ordering_then, ordering_reverse}
 use Rattle.kid_value.specs.PlainValue.{PlainValue, PlainValues, none, more, PlainEntries, no_entry, entry, items}
-use Rattle.kid_value.specs.ValueOrder.{value_cmp, set_cmp, map_cmp, Before}
+use Rattle.kid_value.specs.ValueOrder.{value_cmp, set_cmp, map_cmp}
 use Rattle.kid_value.specs.ValueSet.{Ascends, AllAfter}
 use Rattle.kid_value.proofs.ValueOrderLaws.{value_cmp-equal}
 use Rattle.kid_value.proofs.ValueSetLaws.{Before-greater}

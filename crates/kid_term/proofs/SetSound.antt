@@ -1,11 +1,14 @@
 -- The values of the operators on sets have their sorts, and their sums stay small.
 use Rattle.std.proofs.Common.{◌≡◌, ℕ, zero, suc, ◌+◌, ℤ, ◌+ℤ◌, Bool, true, false, List, [], ◌∷◌, Ok, refl, sym, ap, ◌∙◌, cond, subst, arith, length}
-use Rattle.std.specs.Prelude.{pos, negsuc, ◌≤ℤ◌, ◌<ℤ◌, ◌&&◌, not, int_le, filter}
+use Rattle.std.specs.Prelude.{pos, negsuc, ◌≤ℤ◌, ◌<ℤ◌, not, int_le, filter}
 use Rattle.std.specs.List.{list_all}
 use Rattle.std.specs.Int.{int_gap}
 use Rattle.std.proofs.lemmas.Int.{ints as int_rules}
 use Rattle.kid_value.specs.PlainValue.{PlainValue, int, set, PlainValues, items}
-use Rattle.kid_value.specs.PlainSort.{PlainSort, never, bools, ints, sets, has_sort, join, is_allowed, count_of, interval_count}
+use Rattle.kid_value.specs.PlainSort.{PlainSort, never, bools, ints, sets, has_sort}
+use Rattle.kid_value.specs.SortOrder.{join}
+use Rattle.kid_value.specs.SortLimits.{is_allowed}
+use Rattle.kid_value.specs.SortCount.{count_of, interval_count}
 use Rattle.kid_value.specs.ValueSet as sets_of
 use Rattle.kid_value.specs.ValueSet.{value_eq, is_member, is_subset, put, set_of}
 use Rattle.kid_value.specs.Rows.Set.{numbers, first_or}
@@ -18,7 +21,7 @@ use Rattle.kid_term.specs.declared.operator.Op.TheVariants as operator
 use Rattle.kid_term.specs.declared.operator.SetOp.{SetOp}
 use Rattle.kid_term.specs.declared.operator.SetOp.TheVariants.{Set, Range, In, Subset, Union, With, Inter, Diff, Without, Card, Sum, Least}
 use Rattle.kid_term.specs.SetRows.{set_value}
-use Rattle.kid_term.specs.Small.{sums_small, members_small, op_small}
+use Rattle.kid_term.specs.Small.{members_small, op_small}
 use Rattle.kid_term.specs.Sorted.{Sorted, allowed, with_one, with_set, with_join, join_all}
 use Rattle.kid_term.specs.SumSort.{sum_sort}
 use Rattle.kid_term.specs.SetSorts.{set_sort, two_sets, value_and_set, range_sort}
@@ -29,7 +32,6 @@ use Rattle.kid_term.proofs.NumberSound.{within, interval_sound}
 use Rattle.kid_term.proofs.Members.{Each, Each-filter, Each-put, Each-union, AreMembers, set_sound as set_made}
 use Rattle.kid_term.proofs.Counting.{set_parts, members_counted}
 use Rattle.kid_term.proofs.JoinedSorts.{allowed_sound, IsOfSort-left, IsOfSort-right, Each-weaker, Each-join_all}
-use Rattle.kid_term.proofs.Sums.{total-same}
 use Rattle.kid_term.proofs.BinderSound.{Evaluates, summed}
 
 at_values : (o : SetOp) (vs ws : List PlainValue) (s : PlainSort) → vs ≡ ws → Sound s (set_value o ws) → Sound s (set_value o vs)
@@ -213,8 +215,7 @@ pub sum_evaluates : (ss : List PlainSort) (vs : List PlainValue) (s : PlainSort)
 sum_evaluates ss vs s p q h =
     let r = one_set_ok ss vs (λ a. sum_sort (count_of a) a) s p q h in
     let k = summed (count_of r.a) r.a s (items r.us) r.gives r.members.each (members_counted r.a (items r.us) r.set_allowed r.members) in
-    subst (λ z. Evaluates s (set_value Sum z) (members_small z)) (sym r.are)
-    (subst (λ n. Evaluates s (int n) (sums_small (pos 0) (items r.us))) (total-same (items r.us)) k)
+    subst (λ z. Evaluates s (set_value Sum z) (members_small z)) (sym r.are) k
 
 pub set_sound : (o : SetOp) (ss : List PlainSort) (vs : List PlainValue) (s : PlainSort) → set_sort o ss ≡ Ok s → list_all is_allowed ss ≡ true → AreOfSorts ss vs → Sound s (set_value o vs)
 set_sound Set ss vs s p q h =

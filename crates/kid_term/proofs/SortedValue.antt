@@ -1,14 +1,17 @@
 -- A term that has a sort has a value of that sort wherever the names have values of theirs, and every integer on the way is small.
-use Rattle.std.proofs.Common.{◌≡◌, ℕ, ◌+◌, ◌≤◌, ℤ, Bool, true, false, List, [], ◌∷◌, Result, Ok, Err, refl, sym, ap, ◌∙◌, cond, subst, arith, length}
+use Rattle.std.proofs.Common.{◌≡◌, ℕ, ◌+◌, ℤ, Bool, true, false, List, [], ◌∷◌, Result, Ok, Err, refl, sym, ap, ◌∙◌, cond, subst, arith, length}
 use Rattle.std.specs.Prelude.{◌&&◌, ◌||◌, ◌≤ℤ◌, int_le, nat_le, nat_eq, pos, negsuc}
 use Rattle.std.specs.List.{list_all}
 use Rattle.std.proofs.lemmas.Int.{ints as int_rules}
 use Rattle.std.proofs.lemmas.Bool.Decides.{nat_tests}
 use Rattle.kid_value.specs.PlainValue.{PlainValue, int, bool, pair, set, seq, map_of, items}
-use Rattle.kid_value.specs.PlainSort.{PlainSort, never, bools, ints, pairs, sets, seqs, maps, has_sort, is_subsort, in_limits, is_allowed, is_bounded, has_never, sort_depth, count_of}
+use Rattle.kid_value.specs.PlainSort.{PlainSort, never, bools, ints, pairs, sets, seqs, maps, has_sort, has_never}
+use Rattle.kid_value.specs.SortOrder.{is_subsort}
+use Rattle.kid_value.specs.SortLimits.{in_limits, is_allowed, is_bounded, sort_depth}
+use Rattle.kid_value.specs.SortCount.{count_of}
 use Rattle.kid_value.specs.Canonical.{IsCanonical}
 use Rattle.kid_value.specs.Least.{least_value}
-use Rattle.kid_value.specs.Rows.{members_of}
+use Rattle.kid_value.specs.Rows.Parts.{members_of}
 use Rattle.kid_value.proofs.SortLemmas.{and_parts, and_both, int_le-itself}
 use Rattle.kid_term.specs.PlainTerm.{PlainHead, op, call, cast, PlainTerm, var, number, truth, app, bind, PlainTerms, no_term, term, node_count, depth}
 use Rattle.kid_term.specs.declared.operator.Op.TheVariants.{Logic, Number, Pair, Set, Seq, Map, Word}
@@ -16,13 +19,11 @@ use Rattle.kid_term.specs.declared.operator.SeqOp.{SeqOp}
 use Rattle.kid_term.specs.declared.operator.SeqOp.TheVariants.{Total}
 use Rattle.kid_term.specs.declared.operator.Binder.{Binder}
 use Rattle.kid_term.specs.Names.{same_name, Names, is_named, PlainDef, latest_over, latest_first}
-use Rattle.kid_term.specs.Eval.{Env, Calls, value_at, call_at, cast_value, head_value, binder_value, eval, evals, bound, def_value, calls_over, calls_of}
-use Rattle.kid_term.specs.Small.{is_small, is_small_or_short, Checks, check_at, op_small, head_small, binder_small, stays_small, all_stay_small, def_small, checks_over, checks_of}
-use Rattle.kid_term.specs.Sorted.{Fault, Size, TermDeep, Kind, Bounds, Shadow, Sorted, allowed, with_set, ◌>>=◌}
+use Rattle.kid_term.specs.Eval.{Env, Calls, value_at, call_at, cast_value, head_value, eval, evals, bound, def_value, calls_over, calls_of}
+use Rattle.kid_term.specs.Small.{is_small, is_small_or_short, Checks, check_at, op_small, head_small, stays_small, all_stay_small, def_small, checks_over, checks_of}
+use Rattle.kid_term.specs.Sorted.{Fault, Size, TermDeep, Kind, Bounds, Shadow, allowed, with_set, ◌>>=◌}
 use Rattle.kid_term.specs.SeqRows.{seq_value}
 use Rattle.kid_term.specs.SeqSorts.{seq_sort}
-use Rattle.kid_term.specs.WordRows.{word_value}
-use Rattle.kid_term.specs.WordSorts.{word_sort}
 use Rattle.kid_term.specs.Written.{Numbers, written}
 use Rattle.kid_term.specs.Sorting.{sort_at, call_sort, cast_sort, head_sort, binder_sort, unshadowed, fit_parameters, least_sort, least_sorts, sort_of}
 use Rattle.kid_term.specs.Fitting.{IsOfSort, AreOfSorts, Fits, AreAllowed, IsSound, AreSoundOver, AreSound}
@@ -36,7 +37,7 @@ use Rattle.kid_term.proofs.SeqSound.{seq_sound, total_small}
 use Rattle.kid_term.proofs.MapSound.{map_sound}
 use Rattle.kid_term.proofs.RowSound.{word_sound}
 use Rattle.kid_term.proofs.WrittenValues.{AreWritten, written_values}
-use Rattle.kid_term.proofs.Members.{Each, list_all-Each, AreMembers, members_sound}
+use Rattle.kid_term.proofs.Members.{list_all-Each, members_sound}
 use Rattle.kid_term.proofs.BinderSound.{Evaluates, binder_sound}
 
 -- an integer of an allowed sort is small

@@ -1,9 +1,10 @@
 -- Two sorts of which each is below the other are one.
 use Rattle.std.proofs.Common.{◌≡◌, ℕ, ℤ, Bool, true, false, refl, sym, ap, ◌∙◌, subst, arith}
-use Rattle.std.specs.Prelude.{IsTrue, ◌↔◌, ◌&&◌, int_le, nat_le}
+use Rattle.std.specs.Prelude.{IsTrue, ◌↔◌, int_le, nat_le}
 use Rattle.std.proofs.lemmas.Int.{ints as int_rules}
 use Rattle.std.proofs.lemmas.Bool.Decides.{nat_tests}
-use Rattle.kid_value.specs.PlainSort.{PlainSort, never, bools, ints, pairs, sets, seqs, maps, is_subsort}
+use Rattle.kid_value.specs.PlainSort.{PlainSort, never, bools, ints, pairs, sets, seqs, maps}
+use Rattle.kid_value.specs.SortOrder.{is_subsort}
 use Rattle.kid_value.proofs.JoinLemmas.{is_subsort-itself}
 use Rattle.kid_value.proofs.SortLemmas.{and_parts}
 

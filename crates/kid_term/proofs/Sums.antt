@@ -1,29 +1,19 @@
 -- Sums of integers between bounds.
-use Rattle.std.proofs.Common.{◌≡◌, ℕ, zero, suc, ◌+◌, ◌≤◌, ℤ, ◌+ℤ◌, Bool, true, false, List, [], ◌∷◌, refl, sym, ap, ◌∙◌, subst, arith, length, map}
-use Rattle.std.specs.Prelude.{pos, negsuc, ◌*ℤ◌, ◌≤ℤ◌, ◌&&◌, int_le}
-use Rattle.std.specs.Int.{int_min, int_max}
+use Rattle.std.proofs.Common.{◌≡◌, ℕ, zero, suc, ◌+◌, ◌≤◌, ℤ, ◌+ℤ◌, true, List, [], ◌∷◌, refl, ap, ◌∙◌, subst, arith, length}
+use Rattle.std.specs.Prelude.{pos, negsuc, ◌*ℤ◌, ◌≤ℤ◌}
 use Rattle.std.proofs.Math.IntN.{suc_ℤ-*ℤ, *ℤ_comm, zero-*ℤ}
-use Rattle.std.proofs.lemmas.Int.{ints as int_rules, clamps}
+use Rattle.std.proofs.lemmas.Int.{ints as int_rules}
 use Rattle.kid_value.specs.PlainValue.{PlainValue, int}
-use Rattle.kid_value.specs.PlainSort.{PlainSort, ints, has_sort}
-use Rattle.kid_value.specs.Rows.{number_of, total}
-use Rattle.kid_value.specs.Rows.Set as set_row
+use Rattle.kid_value.specs.PlainSort.{ints}
+use Rattle.kid_value.specs.Rows.Parts.{number_of, total}
 use Rattle.kid_value.proofs.SortLemmas.{and_both}
-use Rattle.kid_term.specs.Small.{is_small, sums_small}
+use Rattle.kid_term.specs.Small.{is_small}
+use Rattle.kid_value.specs.Rows.Sums.{sums_small}
 use Rattle.kid_term.specs.Fitting.{IsOfSort}
 use Rattle.kid_term.proofs.Inversions.{int_of}
 use Rattle.kid_term.proofs.Members.{Each}
 use Rattle.kid_term.proofs.NumberSound.{within}
 use Rattle.kid_term.proofs.Products.{scaled, turned}
-
--- the sum of a list's numbers and that of a set or a sequence
-number-same : (v : PlainValue) → number_of v ≡ set_row.number_of v
-number-same (int n) = refl
-number-same v = refl
-
-pub total-same : (vs : List PlainValue) → total vs ≡ set_row.total_of vs
-total-same [] = refl
-total-same (v ∷ vs) = λ i. number-same v i +ℤ total-same vs i
 
 next_multiple : (k k' : ℕ) (a : ℤ) → k' ≡ k + 1 → pos k' *ℤ a ≡ (pos k *ℤ a) +ℤ a
 next_multiple k k' a e = let f : suc k ≡ k' = omega arith in subst (λ z. pos z *ℤ a ≡ (pos k *ℤ a) +ℤ a) f (suc_ℤ-*ℤ (pos k) a)

@@ -1,10 +1,11 @@
 -- The values of the operators on words have their sorts.
-use Rattle.std.proofs.Common.{◌≡◌, ℕ, ◌+◌, ◌-◌, ◌^◌, ◌<◌, ◌≤◌, ℤ, ◌+ℤ◌, Bool, true, false, List, [], ◌∷◌, Option, Some, None, Ok, Err, refl, sym, ap, ◌∙◌, cond, subst, arith, length, map}
+use Rattle.std.proofs.Common.{◌≡◌, ℕ, ◌-◌, ◌^◌, ◌<◌, ◌≤◌, ℤ, ◌+ℤ◌, Bool, true, false, List, [], ◌∷◌, Some, None, Ok, Err, refl, sym, ap, ◌∙◌, cond, subst, arith, length, map}
 use Rattle.std.specs.Prelude.{pos, negsuc, ◌-ℤ◌, ◌≤ℤ◌, ◌&&◌, ◌||◌, not, int_le, max}
 use Rattle.std.specs.Int.{int_min}
 use Rattle.std.proofs.lemmas.Int.{ints as int_rules, clamps}
-use Rattle.kid_value.specs.PlainValue.{PlainValue, int, bool, set, items}
-use Rattle.kid_value.specs.PlainSort.{PlainSort, never, bools, ints, pairs, sets, seqs, maps, has_sort, join}
+use Rattle.kid_value.specs.PlainValue.{PlainValue, int, set, items}
+use Rattle.kid_value.specs.PlainSort.{PlainSort, never, bools, ints, pairs, sets, seqs, maps, has_sort}
+use Rattle.kid_value.specs.SortOrder.{join}
 use Rattle.kid_value.specs.Rows.Kinds.{natural, set_from}
 use Rattle.kid_value.specs.Rows.Word.{has_bit, word_of, bits_below, word_size, key_at, place_above, has_bit_at, lowest_or}
 use Rattle.kid_value.specs.ValueSet.{is_member, Ascends}

@@ -4,7 +4,7 @@ use Rattle.kid_value.specs.PlainValue.{PlainValue, int}
 use Rattle.kid_value.specs.PlainSort.{PlainSort}
 use Rattle.kid_term.specs.PlainTerm.{PlainTerm, var, number, truth, app, bind, PlainTerms, no_term, term}
 use Rattle.kid_term.specs.Eval.{Env, Calls, eval, evals}
-use Rattle.kid_term.specs.Places.{first_of}
+use Rattle.kid_term.specs.Contexts.{first_of}
 use Rattle.kid_term.specs.Sorted.{Fault, Sorted}
 use Rattle.kid_term.specs.WordSorts.{given}
 use Rattle.kid_term.specs.Written.{number_in, Numbers, first_number, written}

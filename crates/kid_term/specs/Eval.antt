@@ -4,7 +4,8 @@ use Rattle.std.specs.List.{list_all, list_any}
 use Rattle.kid_value.specs.PlainValue.{PlainValue, int, bool}
 use Rattle.kid_value.specs.PlainSort.{PlainSort, has_sort}
 use Rattle.kid_value.specs.ValueSet.{set_of}
-use Rattle.kid_value.specs.Rows.{truth_of, members_of, set_from, total}
+use Rattle.kid_value.specs.Rows.Parts.{truth_of, members_of, total}
+use Rattle.kid_value.specs.Rows.Kinds.{set_from}
 use Rattle.kid_value.specs.Least.{least_value}
 use Rattle.kid_term.specs.PlainTerm.{PlainHead, op, call, cast, PlainTerm, var, number, truth, app, bind, PlainTerms, no_term, term}
 use Rattle.kid_term.specs.Names.{same_name, Names, PlainDef}

@@ -1,7 +1,9 @@
 -- Values of sorts, and environments, calls and definitions that fit their sorts.
 use Rattle.std.specs.Prelude.{◌≡◌, ℕ, true, List, [], ◌∷◌, Ok}
 use Rattle.kid_value.specs.PlainValue.{PlainValue}
-use Rattle.kid_value.specs.PlainSort.{PlainSort, has_sort, is_subsort, is_allowed}
+use Rattle.kid_value.specs.PlainSort.{PlainSort, has_sort}
+use Rattle.kid_value.specs.SortOrder.{is_subsort}
+use Rattle.kid_value.specs.SortLimits.{is_allowed}
 use Rattle.kid_value.specs.Canonical.{IsCanonical}
 use Rattle.kid_term.specs.Names.{Names, PlainDef}
 use Rattle.kid_term.specs.Eval.{Env, value_at}

@@ -3,7 +3,8 @@ use Rattle.std.specs.Prelude.{◌≡◌, ℕ, List, Some, Ok}
 use Rattle.kid_value.specs.PlainValue.{PlainValue}
 use Rattle.kid_value.specs.PlainSort.{PlainSort}
 use Rattle.kid_term.specs.PlainTerm.{PlainTerm}
-use Rattle.kid_term.specs.Places.{put_at, SameAt}
+use Rattle.kid_term.specs.Places.{put_at}
+use Rattle.kid_term.specs.Contexts.{SameAt}
 use Rattle.kid_term.specs.Names.{Names, PlainDef}
 use Rattle.kid_term.specs.Eval.{Env, Calls, eval, calls_of}
 use Rattle.kid_term.specs.Sorting.{sort_of}

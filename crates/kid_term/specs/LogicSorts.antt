@@ -1,6 +1,7 @@
 -- The sorts of the operators on truth values.
 use Rattle.std.specs.Prelude.{List, Ok}
-use Rattle.kid_value.specs.PlainSort.{PlainSort, bools, join}
+use Rattle.kid_value.specs.PlainSort.{PlainSort, bools}
+use Rattle.kid_value.specs.SortOrder.{join}
 use Rattle.kid_term.specs.Sorted.{Sorted, allowed, with_one, with_two, with_three, with_bool, with_join}
 use Rattle.kid_term.specs.declared.operator.LogicOp.{LogicOp}
 use Rattle.kid_term.specs.declared.operator.LogicOp.TheVariants.{Not, And, Or, Implies, If, Eq}

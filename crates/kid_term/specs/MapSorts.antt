@@ -1,6 +1,7 @@
 -- The sorts of the operators on maps.
 use Rattle.std.specs.Prelude.{List, [], ◌∷◌, Ok, Err}
-use Rattle.kid_value.specs.PlainSort.{PlainSort, never, bools, sets, maps, join}
+use Rattle.kid_value.specs.PlainSort.{PlainSort, never, bools, sets, maps}
+use Rattle.kid_value.specs.SortOrder.{join}
 use Rattle.kid_term.specs.Sorted.{Kind, Sorted, allowed, with_one, with_two, with_three, with_set, with_map, with_join}
 use Rattle.kid_term.specs.declared.operator.MapOp.{MapOp}
 use Rattle.kid_term.specs.declared.operator.MapOp.TheVariants.{Map, Dom, Ran, Get, Put, Drop, Fill, Submap, Fits, Narrow}

@@ -1,4 +1,4 @@
--- A binder with another name, and a term put in a name's place, or why not.
+-- A binder with another name, or why it may not have it.
 use Rattle.std.specs.Prelude.{◌≡◌, ℕ, Bool, false, ◌||◌, cond, List, Result, Ok, Err}
 use Rattle.kid_term.specs.PlainTerm.{PlainTerm, var, number, truth, app, bind, PlainTerms, no_term, term}
 use Rattle.kid_term.specs.Names.{same_name}

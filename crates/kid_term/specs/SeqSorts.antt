@@ -1,6 +1,7 @@
 -- The sorts of the operators on sequences.
 use Rattle.std.specs.Prelude.{suc, pos, List, length, Ok}
-use Rattle.kid_value.specs.PlainSort.{PlainSort, bools, ints, sets, seqs, join}
+use Rattle.kid_value.specs.PlainSort.{PlainSort, bools, ints, sets, seqs}
+use Rattle.kid_value.specs.SortOrder.{join}
 use Rattle.kid_term.specs.Sorted.{Sorted, allowed, with_one, with_two, with_three, with_ints, with_seq, with_join, join_all}
 use Rattle.kid_term.specs.SumSort.{sum_sort}
 use Rattle.kid_term.specs.declared.operator.SeqOp.{SeqOp}

@@ -1,6 +1,8 @@
 -- The sorts of the operators on sets.
 use Rattle.std.specs.Prelude.{ℤ, pos, int_le, cond, List, Ok}
-use Rattle.kid_value.specs.PlainSort.{PlainSort, never, bools, ints, sets, join, count_of}
+use Rattle.kid_value.specs.PlainSort.{PlainSort, never, bools, ints, sets}
+use Rattle.kid_value.specs.SortOrder.{join}
+use Rattle.kid_value.specs.SortCount.{count_of}
 use Rattle.kid_term.specs.Sorted.{Sorted, allowed, with_one, with_two, with_set, with_join, join_all}
 use Rattle.kid_term.specs.NumberSorts.{two_ints}
 use Rattle.kid_term.specs.SumSort.{sum_sort}

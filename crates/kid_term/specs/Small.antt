@@ -1,9 +1,10 @@
 -- Whether every integer in the evaluation of a term stays within plus or minus 2^62, each sum on the way among them.
-use Rattle.std.specs.Prelude.{◌≡◌, ℕ, Bool, true, ◌&&◌, ℤ, pos, ◌+ℤ◌, nat_eq, cond, List, [], ◌∷◌, map, length}
+use Rattle.std.specs.Prelude.{◌≡◌, ℕ, Bool, true, ◌&&◌, pos, nat_eq, cond, List, [], ◌∷◌, map, length}
 use Rattle.std.specs.List.{list_all}
 use Rattle.kid_value.specs.PlainValue.{PlainValue, int, set, seq, items}
-use Rattle.kid_value.specs.PlainSort.{in_limits}
-use Rattle.kid_value.specs.Rows.{members_of, number_of}
+use Rattle.kid_value.specs.SortLimits.{in_limits}
+use Rattle.kid_value.specs.Rows.Parts.{members_of}
+use Rattle.kid_value.specs.Rows.Sums.{sums_small}
 use Rattle.kid_term.specs.PlainTerm.{PlainHead, op, call, cast, PlainTerm, var, number, truth, app, bind, PlainTerms, no_term, term}
 use Rattle.kid_term.specs.Names.{same_name, PlainDef}
 use Rattle.kid_term.specs.Eval.{Env, Calls, value_at, head_value, eval, evals, bound, def_value, calls_of}
@@ -17,11 +18,6 @@ use Rattle.kid_term.specs.declared.operator.Binder.TheVariants as binder
 abbrev pub is_small : PlainValue → Bool
 is_small (int n) = in_limits n
 is_small v = true
-
--- whether n and each sum of it with the first few numbers stays small
-abbrev pub sums_small : ℤ → List PlainValue → Bool
-sums_small n [] = is_small (int n)
-sums_small n (v ∷ vs) = is_small (int n) && sums_small (n +ℤ number_of v) vs
 
 -- the sum of a set's members and that of a sequence's items, with each sum on the way
 abbrev pub members_small : List PlainValue → Bool

@@ -1,6 +1,8 @@
 -- A sort or the first fault, and how sorts are taken apart.
 use Rattle.std.specs.Prelude.{ℕ, ℤ, cond, List, [], ◌∷◌, Option, Some, None, Result, Ok, Err}
-use Rattle.kid_value.specs.PlainSort.{PlainSort, never, bools, ints, pairs, sets, seqs, maps, join, is_allowed}
+use Rattle.kid_value.specs.PlainSort.{PlainSort, never, bools, ints, pairs, sets, seqs, maps}
+use Rattle.kid_value.specs.SortOrder.{join}
+use Rattle.kid_value.specs.SortLimits.{is_allowed}
 
 -- why a term has no sort
 pub data Fault : Type 0 where

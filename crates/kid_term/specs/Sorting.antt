@@ -1,7 +1,8 @@
 -- The least sort of a term, or its first fault.
-use Rattle.std.specs.Prelude.{ℕ, Bool, true, false, ◌&&◌, pos, ◌*ℤ◌, nat_le, cond, List, [], ◌∷◌, Result, Ok, Err}
-use Rattle.std.specs.Int.{int_min, int_max}
-use Rattle.kid_value.specs.PlainSort.{PlainSort, never, bools, ints, sets, is_subsort, has_never, count_of}
+use Rattle.std.specs.Prelude.{ℕ, Bool, true, false, ◌&&◌, nat_le, cond, List, [], ◌∷◌, Result, Ok, Err}
+use Rattle.kid_value.specs.PlainSort.{PlainSort, bools, ints, sets, has_never}
+use Rattle.kid_value.specs.SortOrder.{is_subsort}
+use Rattle.kid_value.specs.SortCount.{count_of}
 use Rattle.kid_term.specs.PlainTerm.{PlainHead, op, call, cast, PlainTerm, var, number, truth, app, bind, PlainTerms, no_term, term, node_count, depth}
 use Rattle.kid_term.specs.Names.{same_name, Names, is_named, PlainDef, latest_first}
 use Rattle.kid_term.specs.Sorted.{Fault, Size, TermDeep, Unknown, Kind, Bounds, Shadow, Sorted, ◌>>=◌, allowed, with_one, with_bool, with_set}

@@ -1,7 +1,8 @@
 -- The sorts of the operators on words and rows. The lowest key and the number of keys are written as numbers.
-use Rattle.std.specs.Prelude.{ℕ, zero, suc, ◌+◌, ◌-◌, ◌^◌, ℤ, pos, ◌+ℤ◌, ◌-ℤ◌, Bool, true, false, ◌&&◌, int_le, nat_le, nat_lt, max, cond, List, Option, Some, None, Ok, Err}
+use Rattle.std.specs.Prelude.{ℕ, zero, suc, ◌-◌, ◌^◌, ℤ, pos, ◌+ℤ◌, ◌-ℤ◌, Bool, true, false, ◌&&◌, int_le, nat_le, nat_lt, max, cond, List, Option, Some, None, Ok, Err}
 use Rattle.std.specs.Int.{int_min}
-use Rattle.kid_value.specs.PlainSort.{PlainSort, never, bools, ints, sets, seqs, maps, join}
+use Rattle.kid_value.specs.PlainSort.{PlainSort, never, bools, ints, sets, seqs, maps}
+use Rattle.kid_value.specs.SortOrder.{join}
 use Rattle.kid_value.specs.Rows.Kinds.{natural}
 use Rattle.kid_value.specs.Rows.Word.{word_size}
 use Rattle.kid_term.specs.Sorted.{Fault, Kind, Bounds, Sorted, allowed, with_one, with_two, with_three, with_four, with_ints, with_set, with_map, with_join}

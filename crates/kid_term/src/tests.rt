@@ -1,6 +1,6 @@
 use crate::{
-    Binder, BoxedTerm, Def, Defs, Head, Literal, NumberOp, Op, Path, RenameFault, SubstFault, Term,
-    Terms, WordOp, same,
+    Binder, BoxedTerm, Def, Defs, Head, Literal, LogicOp, NumberOp, Op, Path, RenameFault,
+    SubstFault, Term, Terms, WordOp, same,
 };
 use kid_value::{Memory, Names, Sort, Text};
 use std::alloc::Global;
@@ -151,5 +151,36 @@ fn keeps_definitions(rt: HostRuntime) -> Result<(), Fail> {
 fn holds_word_operators(rt: HostRuntime) -> Result<(), Fail> {
     assert!(rt; sizes(rt.alloc())?.holds_word_operator());
     assert!(rt; !all_above(rt.alloc(), "x", "y")?.holds_word_operator());
+    Ok(())
+}
+
+/// `x` below so many negations.
+fn negated(alloc: Global, free: &str, count: usize) -> Result<Term, Memory> {
+    let mut term = var(alloc, free)?;
+    for _ in 0..count {
+        let mut args = Terms::new(alloc);
+        args.push(term)?;
+        term = Term::App(Head::Op(Op::Logic(LogicOp::Not)), args);
+    }
+    Ok(term)
+}
+
+fn is_replaced_deep(alloc: Global, count: usize) -> Result<bool, Fail> {
+    let term = negated(alloc, "x", count)?;
+    let made = term.substitute(alloc, &name(alloc, "x")?, &var(alloc, "z")?)?;
+    let want = negated(alloc, "z", count)?;
+    Ok(same(&made, &want))
+}
+
+#[test]
+fn substitutes_deep_in_a_term(rt: HostRuntime) -> Result<(), Fail> {
+    assert!(rt; is_replaced_deep(rt.alloc(), 1000)?);
+    Ok(())
+}
+
+#[test]
+fn holds_long_paths(rt: HostRuntime) -> Result<(), Fail> {
+    let long = path(rt.alloc(), &[0, 1, 0, 1, 0, 1, 0, 1, 0, 1, 0, 1])?;
+    assert_eq!(rt; long.len(), 12);
     Ok(())
 }

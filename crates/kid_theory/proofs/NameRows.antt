@@ -2,7 +2,8 @@
 use Rattle.std.proofs.Common.{◌≡◌, ℕ, ◌+◌, ◌<◌, List, [], ◌∷◌, ◌++◌, length, get_or, drop, Option, Some, None, refl, sym, ap, ◌∙◌, append_assoc}
 use Rattle.kid_sexp.specs.declared.tree.Tree.{Tree}
 use Rattle.kid_sexp.specs.Tree.{plain, plains}
-use Rattle.kid_value.specs.PlainSort.{PlainSort, both}
+use Rattle.kid_value.specs.PlainSort.{PlainSort}
+use Rattle.kid_value.specs.SortOrder.{both}
 use Rattle.kid_term.specs.Names.{Names}
 use Rattle.kid_codec.specs.Reading.{◌>>=◌}
 use Rattle.kid_codec.proofs.Each.{cons_at}

@@ -54,7 +54,7 @@ code_fails code.Name k there f h = ap (λ o. numbered k o >>= f) h
 code_fails code.Cycle k there f h = ap (λ o. numbered k o >>= f) h
 code_fails code.Sort k there f h = ap (λ o. numbered k o >>= f) h
 code_fails code.Proof k there f h = ap (λ o. numbered k o >>= f) h
-code_fails code.Memory k there f h = tt
+code_fails code.Memory k there f h = refl
 
 failed_if : {X Y B : Type 0} (b : Bool) (view : X → Y) (r : Result X TheoryCode) (there : Judged Y) (k : ℕ) (fault : TheoryFault) (f : Y → Read B)
     → Judges view r there → placed_if b k r ≡ Err fault → Fails fault fault.code (numbered_if b k there >>= f)

@@ -4,7 +4,8 @@ use Rattle.std.specs.Prelude.{◌&&◌, codes}
 use Rattle.std.specs.List.{list_all}
 use Rattle.std.proofs.lemmas.List.Folds.{list_all-append}
 use Rattle.kid_sexp.specs.Plain.{Plain, Plains, none, more}
-use Rattle.kid_value.specs.PlainSort.{PlainSort, bools, is_allowed}
+use Rattle.kid_value.specs.PlainSort.{PlainSort, bools}
+use Rattle.kid_value.specs.SortLimits.{is_allowed}
 use Rattle.kid_value.proofs.SortLemmas.{and_parts, and_both}
 use Rattle.kid_term.specs.Fitting.{AreSound}
 use Rattle.kid_term.specs.Names.{Names, PlainDef}

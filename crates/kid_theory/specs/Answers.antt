@@ -27,8 +27,9 @@ abbrev pub Judges : {X Y : Type 0} → (X → Y) → Result X TheoryCode → Jud
 Judges view (Ok x) there = there ≡ Ok (view x)
 Judges view (Err c) there = CodeFails c there
 
+-- want of memory is no form's, and says nothing else
 abbrev pub Fails : {A : Type 0} → TheoryFault → TheoryCode → Read A → Type 0
-Fails fault code.Memory there = ⊤
+Fails fault code.Memory there = fault.form ≡ 0
 Fails fault c there = there ≡ Err fault
 
 -- the answer is what there is, or the fault

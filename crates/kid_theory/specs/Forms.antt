@@ -2,7 +2,9 @@
 use Rattle.std.specs.Prelude.{ℕ, nat_lt, Bool, true, false, not, ◌&&◌, List, [], ◌∷◌, ◌++◌, length, Option, Some, None, is_some, Ok, codes}
 use Rattle.std.specs.List.{list_all}
 use Rattle.kid_sexp.specs.Plain.{Plain, Plains}
-use Rattle.kid_value.specs.PlainSort.{PlainSort, join, is_allowed}
+use Rattle.kid_value.specs.PlainSort.{PlainSort}
+use Rattle.kid_value.specs.SortOrder.{join}
+use Rattle.kid_value.specs.SortLimits.{is_allowed}
 use Rattle.kid_term.specs.PlainTerm.{PlainTerm, var, number, truth, app, bind, PlainTerms, no_term, term}
 use Rattle.kid_term.specs.Names.{Names, PlainDef}
 use Rattle.kid_term.specs.Sorted.{Sorted}

@@ -1,7 +1,8 @@
 -- What holds of each theory that is read.
 use Rattle.std.specs.Prelude.{◌≡◌, ◌≤◌, ℕ, Bool, true, false, ◌&&◌, List, length, Ok}
 use Rattle.std.specs.List.{list_all}
-use Rattle.kid_value.specs.PlainSort.{bools, is_allowed}
+use Rattle.kid_value.specs.PlainSort.{bools}
+use Rattle.kid_value.specs.SortLimits.{is_allowed}
 use Rattle.kid_term.specs.Names.{is_named}
 use Rattle.kid_term.specs.PlainSpec.{relation_scope}
 use Rattle.kid_term.specs.Sorting.{sort_of}

@@ -1,7 +1,8 @@
 -- The parts of a theory's forms by their shape. A word that is to be declared may be a name or not.
 use Rattle.std.specs.Prelude.{ℕ, List, [], ◌∷◌, Option, Some, None, option_map, if◌then◌else◌, codes}
 use Rattle.kid_sexp.specs.Plain.{Plain, Plains, atom, list, none, more}
-use Rattle.kid_value.specs.PlainSort.{PlainSort, both}
+use Rattle.kid_value.specs.PlainSort.{PlainSort}
+use Rattle.kid_value.specs.SortOrder.{both}
 use Rattle.kid_term.specs.PlainTerm.{PlainTerm}
 use Rattle.kid_term.specs.Names.{Names, PlainDef}
 use Rattle.kid_term.specs.WordTerms.{holds_word_operator}

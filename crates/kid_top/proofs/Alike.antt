@@ -6,12 +6,12 @@ use Rattle.kid_term.specs.Eval.{Env}
 use Rattle.kid_term.specs.Names.{Names}
 use Rattle.kid_kernel.specs.PlainTheory.{PlainTheory}
 use Rattle.kid_prog.specs.declared.fault.LoadCode.TheVariants as code
-use Rattle.kid_prog.specs.Laws.{program_text}
+use Rattle.kid_prog.specs.ProgramText.{program_text}
 use Rattle.kid_prog.specs.Loading.{refused, from_forest, loading}
 use Rattle.kid_prog.specs.PlainProgram.{PlainProgram}
 use Rattle.kid_top.specs.declared.stop.Stop.{Stop}
 use Rattle.kid_top.specs.Derivation.{derivation_text}
-use Rattle.kid_top.specs.Ends.{RunsAlike}
+use Rattle.kid_top.specs.Done.{RunsAlike}
 use Rattle.kid_top.specs.Outcome.{◌>>=◌, Work, runs, saves, theory_stage, program_or, program_file, program_stage, inputs_stage, script_program, run_inputs}
 use Rattle.kid_top.proofs.Derives.{derive_parts}
 use Rattle.kid_top.proofs.Headline.{solve_parts}

@@ -7,16 +7,16 @@ use Rattle.kid_term.specs.Eval.{Env}
 use Rattle.kid_codec.proofs.Numbers.{bytes_eq-itself, bytes_eq-true}
 use Rattle.kid_kernel.specs.PlainTheory.{PlainTheory}
 use Rattle.kid_theory.specs.IsTheory.{IsTheory}
-use Rattle.kid_prog.specs.Laws.{program_text}
+use Rattle.kid_prog.specs.ProgramText.{program_text}
 use Rattle.kid_prog.specs.PlainProgram.{PlainProgram}
 use Rattle.kid_top.specs.declared.stop.Stop.{Stop}
 use Rattle.kid_top.specs.Derivation.{derivation_text}
 use Rattle.kid_top.specs.Emitted.{emitted}
-use Rattle.kid_top.specs.Ends.{Derived}
+use Rattle.kid_top.specs.Done.{Derived}
 use Rattle.kid_top.specs.Finishing.{WorkSaves}
 use Rattle.kid_top.specs.Outcome.{Work, saves, theory_stage, script_program, derive_theory, derive_work}
 use Rattle.kid_top.specs.Printed.{FindsAnswers, Implements}
-use Rattle.kid_top.specs.Search.{range_count}
+use Rattle.kid_top.specs.RangeSearch.{range_count}
 use Rattle.kid_top.proofs.EmittedSearch.{Searchable, emitted-answer, emitted-whole}
 use Rattle.kid_top.proofs.Outcomes.{bind_ok, same_ok, stage_theory, script_searches}
 use Rattle.kid_top.proofs.Searches.{Searches}

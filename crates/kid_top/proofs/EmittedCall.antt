@@ -6,7 +6,7 @@ use Rattle.std.proofs.lemmas.Int.{ints as int_rules}
 use Rattle.kid_value.specs.PlainValue.{PlainValue, int}
 use Rattle.kid_value.specs.PlainSort.{PlainSort, bools, ints}
 use Rattle.kid_value.specs.Least.{least_value}
-use Rattle.kid_value.specs.Rows.{truth_of}
+use Rattle.kid_value.specs.Rows.Parts.{truth_of}
 use Rattle.kid_term.specs.Names.{same_name, is_named, latest_first}
 use Rattle.kid_term.specs.PlainSpec.{relation_scope}
 use Rattle.kid_term.specs.Eval.{Env, value_at, cast_value, eval}
@@ -17,7 +17,7 @@ use Rattle.kid_term.proofs.SortedValue.{sort_of_ok}
 use Rattle.kid_kernel.specs.PlainTheory.{PlainTheory}
 use Rattle.kid_run.specs.Running.{Event, called, found, procedure}
 use Rattle.kid_top.specs.Answer.{theory_calls, relates_at}
-use Rattle.kid_top.specs.Search.{middle}
+use Rattle.kid_top.specs.RangeSearch.{middle}
 use Rattle.kid_top.specs.Emitted.{emitted, leaf, is_apart, takes_leaf}
 use Rattle.kid_top.proofs.Scopes.{eval-in_scope, names-differ}
 

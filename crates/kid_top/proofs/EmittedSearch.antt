@@ -1,20 +1,23 @@
 -- The emitted program finds the answers in order, and its calls are as many as the intervals that the search visits.
-use Rattle.std.proofs.Common.{◌≡◌, ℕ, zero, suc, ◌+◌, ◌<◌, ◌≤◌, Bool, true, false, cond, List, [], ◌∷◌, ◌++◌, length, map, Some, None, refl, sym, ap, ap₂, ◌∙◌, subst, arith, append-nil}
+use Rattle.std.proofs.Common.{◌≡◌, ℕ, zero, suc, ◌+◌, ◌<◌, ◌≤◌, Bool, true, false, cond, List, [], ◌∷◌, ◌++◌, length, map, take, Some, None, refl, sym, ap, ap₂, ◌∙◌, subst, arith, append-nil}
 use Rattle.std.specs.Prelude.{ℤ, pos, ◌+ℤ◌, ◌≤ℤ◌, ◌<ℤ◌, int_lt, ◌&&◌}
 use Rattle.std.specs.Int.{int_gap}
 use Rattle.std.specs.Ordering.{int_eq}
 use Rattle.std.specs.List.{flat_map}
 use Rattle.std.specs.Option.{option_to_list}
 use Rattle.std.proofs.lemmas.Int.{ints as int_rules}
+use Rattle.std.proofs.lemmas.Grind.{flat_map-append}
 use Rattle.std.proofs.lemmas.List.{map-append}
 use Rattle.kid_value.specs.PlainValue.{PlainValue, int}
 use Rattle.kid_term.specs.Eval.{Env}
 use Rattle.kid_kernel.specs.PlainTheory.{PlainTheory}
-use Rattle.kid_run.specs.Running.{Event, found, program_events, run_of}
+use Rattle.kid_run.specs.Running.{Event, called, found, within, Run, program_events, run_of}
+use Rattle.kid_run.proofs.Depths.{run_of-deeper}
 use Rattle.kid_top.specs.Answer.{theory_calls, relates_at, Answer}
-use Rattle.kid_top.specs.Search.{Interval, visit, visited, middle, range_leaf, range_kids, range_visit, range_visits, range_search, range_count}
+use Rattle.kid_top.specs.RangeSearch.{Interval, middle, range_leaf, range_kids, range_visit, range_visits, range_search, range_count, range_found}
+use Rattle.kid_top.specs.Search.{visit, visited}
 use Rattle.kid_top.specs.Emitted.{emitted}
-use Rattle.kid_top.proofs.Ranges.{middle_between, gaps_add, length-both}
+use Rattle.kid_top.proofs.Ranges.{int_lt-is, middle_between, gaps_add, length-both}
 use Rattle.kid_top.proofs.RangeAnswers.{range-answers}
 use Rattle.kid_top.proofs.EventLists.{values_in, calls_in, values_in-append, calls_in-append, whole-is_all, few-whole}
 use Rattle.kid_top.proofs.EmittedCall.{begun, one_call, call-is}
@@ -81,6 +84,45 @@ visit-whole good m n l h lower upper kids few =
       calls = ap suc (same ∙ k.calls);
     }
 
+-- ---- all that is done at the descriptors that are visited
+
+-- what a call does before it calls for its halves
+abbrev pub at_visit : (ℤ → Bool) → Interval → List Event
+at_visit good d = called ∷ cond (int_eq d.0 d.1 && good d.0) (found (int d.0) ∷ []) []
+
+events-halves : (good : ℤ → Bool) (n : ℕ) (l h : ℤ) (lower upper : List Event)
+    → (l <ℤ h → lower ≡ flat_map (at_visit good) (visited range_kids n (l, middle l h)))
+    → (l <ℤ h → upper ≡ flat_map (at_visit good) (visited range_kids n (middle l h +ℤ pos 1, h)))
+    → (wide : Bool) → int_lt l h ≡ wide → cond wide (lower ++ upper) [] ≡ flat_map (at_visit good) (flat_map (visited range_kids n) (halves wide l h))
+events-halves good n l h lower upper left right true e =
+    let lt = int_lt-true l h e in
+    ap₂ (λ es fs. es ++ fs) (left lt) (right lt)
+    ∙ sym (flat_map-append (at_visit good) (visited range_kids n (l, middle l h)) (visited range_kids n (middle l h +ℤ pos 1, h)))
+    ∙ ap (λ ds. flat_map (at_visit good) (visited range_kids n (l, middle l h) ++ ds)) (sym (append-nil (visited range_kids n (middle l h +ℤ pos 1, h))))
+events-halves good n l h lower upper left right false e = refl
+
+-- the visits of each half are fewer
+visits-halves : (m n : ℕ) (l h : ℤ) (wide : Bool) → int_lt l h ≡ wide → suc (length (flat_map (visited range_kids n) (halves wide l h))) ≤ suc m → l <ℤ h
+    → (range_visits n l (middle l h) ≤ m) × (range_visits n (middle l h +ℤ pos 1) h ≤ m)
+visits-halves m n l h true e few lt =
+    let both = length-both (visited range_kids n) (l, middle l h) (middle l h +ℤ pos 1, h) in
+    (omega (arith, both, few), omega (arith, both, few))
+visits-halves m n l h false e few lt = let wide = int_lt-is l h lt in cc
+
+after-visit : (c : Bool) (z : ℤ) (fuel : ℕ) (es : List Event) (zs : List ℤ) → (within fuel es).values ≡ map int zs
+    → (within fuel (cond c (found (int z) ∷ []) [] ++ es)).values ≡ map int (option_to_list (cond c (Some z) None) ++ zs)
+after-visit true z fuel es zs e = ap (λ vs. int z ∷ vs) e
+after-visit false z fuel es zs e = e
+
+-- so much fuel is for so many visits
+within-visits : (good : ℤ → Bool) (ds : List Interval) (fuel : ℕ)
+    → (within fuel (flat_map (at_visit good) ds)).values ≡ map int (flat_map (λ d. option_to_list (range_leaf good d)) (take fuel ds))
+within-visits good [] zero = refl
+within-visits good [] (suc fuel) = refl
+within-visits good (d ∷ ds) zero = refl
+within-visits good (d ∷ ds) (suc fuel) =
+    after-visit (int_eq d.0 d.1 && good d.0) d.0 fuel (flat_map (at_visit good) ds) (flat_map (λ e. option_to_list (range_leaf good e)) (take fuel ds)) (within-visits good ds fuel)
+
 -- ---- the search procedure against the search
 
 -- the halves lie between the ends, and the upper one is not empty
@@ -142,6 +184,22 @@ module _ (t : PlainTheory) (lo hi : ℤ) (x : Env) (can : Searchable t lo hi) wh
           )
       by false e left right = omega (arith, calls-leaf (int_eq l h && good l) (int l) [])
 
+  -- what a call does, where as many others may lie under it as there are visits
+  call-events : (m n : ℕ) (l h : ℤ) → lo ≤ℤ l → h ≤ℤ hi → l ≤ℤ h → int_gap l h < n → range_visits n l h ≤ m
+      → begun t lo hi x m l h ≡ flat_map (at_visit good) (visited range_kids n (l, h))
+  call-events m zero l h low high le gap enough = absurd (omega (arith, gap))
+  call-events zero (suc n) l h low high le gap enough = absurd (omega (arith, enough))
+  call-events (suc m) (suc n) l h low high le gap enough =
+      let few = visits-halves m n l h (int_lt l h) refl enough in
+      let lower = begun t lo hi x m l (middle l h) in
+      let upper = begun t lo hi x m (middle l h +ℤ pos 1) h in
+      call-is t lo hi x m l h can low (omega (arith, int_rules, le, high))
+      ∙ ap (λ es. called ∷ (cond (int_eq l h && good l) (found (int l) ∷ []) [] ++ es))
+      (events-halves good n l h lower upper
+      (λ lt. call-events m n l (middle l h) low (lower-end l h hi lt high) (middle_between l h lt).0 (omega (arith, gaps_add l h lt, gap)) (few lt).0)
+      (λ lt. call-events m n (middle l h +ℤ pos 1) h (upper-end lo l h lt low) high (upper-ordered l h lt) (omega (arith, gaps_add l h lt, gap)) (few lt).1)
+      (int_lt l h) refl)
+
   -- the program's one call
   events-are : (n : ℕ) → program_events (emitted t lo hi) x n ≡ begun t lo hi x n lo hi
   events-are n = append-nil (begun t lo hi x n lo hi ++ []) ∙ append-nil (begun t lo hi x n lo hi)
@@ -156,6 +214,16 @@ emitted-run t lo hi x fuel can whole =
     let v = call-visits t lo hi x can fuel (suc (int_gap lo hi)) lo hi (omega (arith, int_rules)) (omega (arith, int_rules)) can.ordered (omega arith)
     (subst (λ es. calls_in es ≤ fuel) are all.few) in
     (all.values ∙ ap values_in are ∙ v.values, all.calls ∙ ap calls_in are ∙ v.calls)
+
+-- a run of it with any fuel finds what the first descriptors hold that the search visits
+pub emitted-found : (t : PlainTheory) (lo hi : ℤ) (x : Env) (fuel : ℕ) → Searchable t lo hi
+    → (run_of (emitted t lo hi) x fuel).values ≡ map int (range_found (relates_at (theory_calls t) x t.spec.output t.spec.relation) fuel (lo, hi))
+emitted-found t lo hi x fuel can =
+    let m : ℕ = fuel + range_count (lo, hi) in
+    let good : ℤ → Bool = relates_at (theory_calls t) x t.spec.output t.spec.relation in
+    let events = call-events t lo hi x can m (suc (int_gap lo hi)) lo hi (omega (arith, int_rules)) (omega (arith, int_rules)) can.ordered (omega arith) (omega arith) in
+    ap (λ (r : Run). r.values) (run_of-deeper (emitted t lo hi) x fuel m (omega arith) ∙ ap (within fuel) (events-are t lo hi x can m ∙ events))
+    ∙ within-visits good (visited range_kids (suc (int_gap lo hi)) (lo, hi)) fuel
 
 -- and that is the answer
 pub emitted-answer : (t : PlainTheory) (lo hi : ℤ) (x : Env) (fuel : ℕ) → Searchable t lo hi → (run_of (emitted t lo hi) x fuel).whole ≡ true

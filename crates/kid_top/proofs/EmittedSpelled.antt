@@ -3,7 +3,8 @@ use Rattle.std.proofs.Common.{◌≡◌, ℕ, zero, suc, ℤ, Bool, true, false,
 use Rattle.std.specs.Prelude.{pos, negsuc, neg_ℤ, ◌+ℤ◌, ◌-ℤ◌, ◌≤ℤ◌, int_lt, int_le, ◌&&◌, ◌==◌, is_some, codes}
 use Rattle.std.specs.List.{list_all}
 use Rattle.std.proofs.lemmas.Int.{ints as int_rules}
-use Rattle.kid_value.specs.PlainSort.{PlainSort, never, bools, ints, pairs, sets, seqs, maps, in_limits}
+use Rattle.kid_value.specs.PlainSort.{PlainSort, never, bools, ints, pairs, sets, seqs, maps}
+use Rattle.kid_value.specs.SortLimits.{in_limits}
 use Rattle.kid_value.proofs.SortLemmas.{and_parts, and_both}
 use Rattle.kid_term.specs.Names.{same_name}
 use Rattle.kid_term.specs.PlainTerm.{PlainHead, op, call, cast, PlainTerm, var, number, truth, app, bind, PlainTerms, no_term, term, terms}
@@ -14,7 +15,7 @@ use Rattle.kid_codec.specs.Name.{is_name}
 use Rattle.kid_codec.specs.SortSpelling.{is_spelled_sort}
 use Rattle.kid_codec.specs.DeclaredSpelling.{is_spelled_name, is_spelled_definition}
 use Rattle.kid_codec.specs.TermSpelling.{begin_with_numbers, is_spelled_head, is_spelled_term, are_spelled_terms}
-use Rattle.kid_codec.specs.Word.{takes, numbers_first}
+use Rattle.kid_codec.specs.Takes.{takes, numbers_first}
 use Rattle.kid_codec.proofs.Found.{same_some, if_some}
 use Rattle.kid_kernel.specs.PlainTheory.{PlainTheory}
 use Rattle.kid_theory.specs.IsTheory.{is_spelled_theory}

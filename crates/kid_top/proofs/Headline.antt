@@ -14,7 +14,7 @@ use Rattle.kid_run.specs.Running.{Run, run_of}
 use Rattle.kid_top.specs.declared.stop.Stop.{Stop}
 use Rattle.kid_top.specs.Answer.{is_inside}
 use Rattle.kid_top.specs.Emitted.{emitted}
-use Rattle.kid_top.specs.Ends.{Solved}
+use Rattle.kid_top.specs.Done.{Solved}
 use Rattle.kid_top.specs.Outcome.{Work, runs, theory_stage, inputs_stage, script_program, run_inputs, solve_theory, solve_work, is_whole, work_status, work_text}
 use Rattle.kid_top.specs.Printed.{splits_in, Answers, Texts}
 use Rattle.kid_top.proofs.EmittedSearch.{Searchable, emitted-run, emitted-answer}
@@ -23,10 +23,10 @@ use Rattle.kid_top.proofs.Searches.{Searches}
 
 -- ---- lines
 
-abbrev joined : List (List ℕ) → List ℕ
+abbrev pub joined : List (List ℕ) → List ℕ
 joined lines = flat_map (λ line. line) lines
 
-joined-lines : (vs : List PlainValue) (last : List ℕ) → joined (map value_line vs ++ last ∷ []) ≡ flat_map value_line vs ++ last
+pub joined-lines : (vs : List PlainValue) (last : List ℕ) → joined (map value_line vs ++ last ∷ []) ≡ flat_map value_line vs ++ last
 joined-lines [] last = append-nil last
 joined-lines (v ∷ vs) last = ap (λ rest. value_line v ++ rest) (joined-lines vs last) ∙ sym (append_assoc (value_line v) (flat_map value_line vs) last)
 
@@ -72,7 +72,7 @@ texts t lo hi fuel (x ∷ xs) can whole =
 -- ---- solving
 
 -- where the status is 0 each run is whole
-abbrev status : Bool → ℕ
+abbrev pub status : Bool → ℕ
 status whole = if whole then 0 else 4
 
 status-whole : (whole : Bool) → status whole ≡ 0 → whole ≡ true
@@ -107,7 +107,7 @@ program_texts t p fuel xs s whole =
     let hi : ℤ = s.hi in
     subst (λ (q : PlainProgram). list_all (is_whole q fuel) xs ≡ true → Texts t q fuel xs (run_text q fuel xs)) (sym s.is) (texts t lo hi fuel xs s.can) whole
 
-searched_inputs : (t : PlainTheory) (p : PlainProgram) → Searches t p → p.inputs ≡ t.spec.inputs
+pub searched_inputs : (t : PlainTheory) (p : PlainProgram) → Searches t p → p.inputs ≡ t.spec.inputs
 searched_inputs t p s = ap (λ (q : PlainProgram). q.inputs) s.is
 
 -- solving prints the answers for each input where the status is 0

@@ -6,9 +6,10 @@ use Rattle.kid_outer.specs.Held.{Held}
 use Rattle.kid_codec.proofs.Found.{same_some, if_some, if_else}
 use Rattle.kid_codec.proofs.Numbers.{bytes_eq-itself}
 use Rattle.kid_top.specs.Command.{Command, derive, run, solve, given_fuel, derive_words, fuel_of, command_of_two, command_of_three, command_of_four, command_of_five, command_of}
-use Rattle.kid_top.specs.Ends.{Does, DoesHeld, SolvesHeld, DerivesHeld}
+use Rattle.kid_top.specs.Done.{Does, DoesHeld, SolvesHeld, CutsHeld, DerivesHeld}
 use Rattle.kid_top.specs.Finishing.{WorkSaves}
 use Rattle.kid_top.specs.Outcome.{Work, work_of, outcome_of, Outcomes}
+use Rattle.kid_top.proofs.CutTexts.{solve_cuts}
 use Rattle.kid_top.proofs.Derives.{derive_held}
 use Rattle.kid_top.proofs.Headline.{solve_texts}
 
@@ -33,6 +34,26 @@ pub solves_held : (words : List (List ℕ)) (files : Option Held) (status : ℕ)
     → SolvesHeld (command_of words) files old new
 solves_held words None status old new done d = none_solves (command_of words) old new
 solves_held words (Some files) status old new done d = command_solves (command_of words) files status old new done d
+
+-- with the status 4 it was, as far as the fuel reached
+command_cuts : (command : Option Command) (files : Held) (status : ℕ) (old new : Option (List ℕ)) → status ≡ 4 → Does (outcome_of command files) status old new
+    → CutsHeld command (Some files) old new
+command_cuts None files status old new done d = tt
+command_cuts (Some (derive theory script derivation program)) files status old new done d = tt
+command_cuts (Some (run program inputs fuel)) files status old new done d = tt
+command_cuts (Some (solve theory script inputs fuel)) files status old new done d =
+    solve_cuts files theory script inputs fuel d.work old new d.comes (sym d.status_is ∙ done) d.printed
+
+none_cuts : (command : Option Command) (old new : Option (List ℕ)) → CutsHeld command None old new
+none_cuts None old new = tt
+none_cuts (Some (derive theory script derivation program)) old new = tt
+none_cuts (Some (run program inputs fuel)) old new = tt
+none_cuts (Some (solve theory script inputs fuel)) old new = tt
+
+pub cuts_held : (words : List (List ℕ)) (files : Option Held) (status : ℕ) (old new : Option (List ℕ)) → status ≡ 4 → DoesHeld words files status old new
+    → CutsHeld (command_of words) files old new
+cuts_held words None status old new done d = none_cuts (command_of words) old new
+cuts_held words (Some files) status old new done d = command_cuts (command_of words) files status old new done d
 
 -- ---- deriving
 

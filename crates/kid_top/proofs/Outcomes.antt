@@ -6,7 +6,7 @@ use Rattle.kid_theory.specs.IsTheory.{IsTheory}
 use Rattle.kid_theory.specs.Reading.{Read, theory_reading}
 use Rattle.kid_theory.proofs.Laws.{theories_read}
 use Rattle.kid_prog.specs.PlainProgram.{PlainProgram}
-use Rattle.kid_prog.specs.Laws.{program_text}
+use Rattle.kid_prog.specs.ProgramText.{program_text}
 use Rattle.kid_prog.specs.Loading.{Loaded, loading}
 use Rattle.kid_prog.proofs.Laws.{texts_back}
 use Rattle.kid_top.specs.declared.stop.Stop.{Stop}

@@ -16,7 +16,11 @@ use Rattle.kid_top.specs.WorkView.{plain_work, Suits}
 use Rattle.kid_top.specs.Risen.{Counts, WorkRose}
 use Rattle.kid_top.specs.Saves.{IsLateStop, SavesInOrder, KeptInOrder}
 use Rattle.kid_top.specs.Finishing.{Finishes, FinishRose, FinishFront, FinishKeeps}
-use Rattle.kid_top.specs.Ends.{DoesHeld, HasWork, LateRose, CommandRose, FaultRose, text_for, PutsFront, IsQuiet, IsRefusedBy, SavesOnly, KeepsFiles, KeepsFilesBy, DerivesHeld}
+use Rattle.kid_top.specs.Done.{DoesHeld, DerivesHeld}
+use Rattle.kid_top.specs.Ends.{HasWork, LateRose, CommandRose, FaultRose}
+use Rattle.kid_top.specs.Shown.{text_for, PutsFront, IsQuiet}
+use Rattle.kid_top.specs.Said.{IsRefusedBy}
+use Rattle.kid_top.specs.Kept.{SavesOnly, KeepsFiles, KeepsFilesBy}
 use Rattle.kid_top.proofs.HeldLemmas.{derives_held, command_apart}
 
 -- what the files give for a command, where they are told

@@ -11,7 +11,7 @@ use Rattle.kid_value.specs.InSort.{in_sort}
 use Rattle.kid_value.specs.ValueSet.{is_member, AllAfter, Ascends}
 use Rattle.kid_term.specs.Eval.{Env}
 use Rattle.kid_kernel.specs.PlainTheory.{PlainTheory}
-use Rattle.kid_top.specs.Search.{range_search}
+use Rattle.kid_top.specs.RangeSearch.{range_search}
 use Rattle.kid_top.specs.Answer.{theory_calls, relates, relates_at, Answer}
 use Rattle.kid_top.proofs.Ranges.{Within, range-within, is_in, is_in-below, is_in-above, range-exact}
 

@@ -3,7 +3,8 @@ use Rattle.std.proofs.Common.{◌≡◌, ℤ, true, refl}
 use Rattle.std.specs.Prelude.{IsTrue, ◌&&◌, negsuc, pos, int_le}
 use Rattle.std.specs.Fmt.{signed_decimal}
 use Rattle.kid_sexp.specs.Printing.{is_word, is_printable}
-use Rattle.kid_value.specs.PlainSort.{PlainSort, never, bools, ints, pairs, sets, seqs, maps, in_limits, is_allowed}
+use Rattle.kid_value.specs.PlainSort.{PlainSort, never, bools, ints, pairs, sets, seqs, maps}
+use Rattle.kid_value.specs.SortLimits.{in_limits, is_allowed}
 use Rattle.kid_value.proofs.SortLemmas.{and_parts, and_both, int_le-trans}
 use Rattle.kid_prog.proofs.Words.{number_word}
 use Rattle.kid_top.specs.Derivation.{steps_at}

@@ -5,7 +5,11 @@ use Rattle.kid_top.specs.declared.stop.Stop.{Stop}
 use Rattle.kid_top.specs.declared.stop.Stop.TheVariants.{Memory, Usage, Failed, Theory, Program, Inputs, Unbuilt, Absent}
 use Rattle.kid_top.specs.Stops.{status_of, stop_text, Complains}
 use Rattle.kid_top.specs.Command.{Command, derive, run, solve}
-use Rattle.kid_top.specs.Ends.{DoesHeld, EndsHeld, IsRefusedBy, IsQuiet, Says, ending, DeriveKeeps, KeepsFiles}
+use Rattle.kid_top.specs.Done.{DoesHeld}
+use Rattle.kid_top.specs.Ends.{EndsHeld, ending}
+use Rattle.kid_top.specs.Said.{IsRefusedBy, Says}
+use Rattle.kid_top.specs.Shown.{IsQuiet}
+use Rattle.kid_top.specs.Kept.{DeriveKeeps, KeepsFiles}
 
 -- a status of a stop, or want of memory
 abbrev pub Told : Stop → ℕ → Type 0

@@ -9,7 +9,7 @@ use Rattle.kid_top.specs.WorkView.{Suits}
 use Rattle.kid_top.specs.Risen.{Counts}
 use Rattle.kid_top.specs.Saves.{SavesOne, NoneRose, SavesFront}
 use Rattle.kid_top.specs.Finishing.{FinishWhole}
-use Rattle.kid_top.specs.Ends.{KeepsWhole}
+use Rattle.kid_top.specs.Kept.{KeepsWhole}
 use Rattle.kid_top.proofs.StageLemmas.{rose_later}
 use Rattle.kid_top.proofs.Performed.{GivesWork}
 

@@ -3,7 +3,7 @@ use Rattle.std.specs.Prelude.{◌≡◌, ℕ, ℤ, Bool, ◌&&◌, List, ◌∷�
 use Rattle.kid_value.specs.PlainValue.{PlainValue, int}
 use Rattle.kid_value.specs.InSort.{in_sort}
 use Rattle.kid_value.specs.ValueSet.{is_member, Ascends}
-use Rattle.kid_value.specs.Rows.{truth_of}
+use Rattle.kid_value.specs.Rows.Parts.{truth_of}
 use Rattle.kid_term.specs.PlainTerm.{PlainTerm}
 use Rattle.kid_term.specs.Eval.{Env, Calls, eval, calls_of}
 use Rattle.kid_kernel.specs.PlainTheory.{PlainTheory}

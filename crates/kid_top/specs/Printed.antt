@@ -1,15 +1,15 @@
 -- What is printed for an input of a theory, by its answers.
-use Rattle.std.specs.Prelude.{◌≡◌, ℕ, true, List, [], ◌∷◌, ◌++◌, length, MatchBool}
+use Rattle.std.specs.Prelude.{◌≡◌, ℕ, ℤ, Bool, true, List, [], ◌∷◌, ◌++◌, length, map, MatchBool}
 use Rattle.std.specs.List.{flat_map}
 use Rattle.kid_value.specs.PlainSort.{PlainSort, ints}
-use Rattle.kid_value.specs.PlainValue.{PlainValue}
+use Rattle.kid_value.specs.PlainValue.{PlainValue, int}
 use Rattle.kid_term.specs.Eval.{Env}
 use Rattle.kid_kernel.specs.PlainTheory.{PlainTheory}
 use Rattle.kid_prog.specs.PlainProgram.{PlainProgram}
-use Rattle.kid_run.specs.Lines.{value_line, closing_line, outside_line}
+use Rattle.kid_run.specs.Lines.{value_line, closing_line, fuel_line, outside_line}
 use Rattle.kid_run.specs.Running.{run_of}
-use Rattle.kid_top.specs.Answer.{Answer, is_inside}
-use Rattle.kid_top.specs.Search.{range_count}
+use Rattle.kid_top.specs.Answer.{theory_calls, relates_at, Answer, is_inside}
+use Rattle.kid_top.specs.RangeSearch.{range_count, range_found}
 
 -- how many descriptors the search of a range visits
 abbrev pub splits_in : PlainSort → ℕ
@@ -31,6 +31,28 @@ InputText t p fuel x text = MatchBool (is_inside t x) (Answers t p fuel x text) 
 abbrev pub Texts : PlainTheory → PlainProgram → ℕ → List Env → List ℕ → Type 0
 Texts t p fuel [] text = text ≡ []
 Texts t p fuel (x ∷ xs) text = (here : List ℕ) × (rest : List ℕ) × (text ≡ here ++ rest) × InputText t p fuel x here × Texts t p fuel xs rest
+
+abbrev pub found_in : PlainSort → (ℤ → Bool) → ℕ → List PlainValue
+found_in (ints lo hi) good n = map int (range_found good n (lo, hi))
+found_in s good n = []
+
+-- the answers in the first descriptors that the search visits, of which there are as many as the fuel
+abbrev pub found_first : PlainTheory → ℕ → Env → List PlainValue
+found_first t fuel x = found_in t.spec.sort (relates_at (theory_calls t) x t.spec.output t.spec.relation) fuel
+
+-- The fuel ran out: a line for each answer that was found by then, before which there are no others, and then that it ran out.
+pub record FirstAnswers (t : PlainTheory) (fuel : ℕ) (x : Env) (text : List ℕ) : Type 0 where
+  pub others : List PlainValue
+  pub exact : Answer t x (found_first t fuel x ++ others)
+  pub lines : text ≡ flat_map value_line (found_first t fuel x) ++ fuel_line fuel
+
+-- the text for one input where the fuel is less than the search takes
+abbrev pub CutText : PlainTheory → ℕ → Env → List ℕ → Type 0
+CutText t fuel x text = MatchBool (is_inside t x) (FirstAnswers t fuel x text) (text ≡ outside_line)
+
+abbrev pub CutTexts : PlainTheory → ℕ → List Env → List ℕ → Type 0
+CutTexts t fuel [] text = text ≡ []
+CutTexts t fuel (x ∷ xs) text = (here : List ℕ) × (rest : List ℕ) × (text ≡ here ++ rest) × CutText t fuel x here × CutTexts t fuel xs rest
 
 -- with some fuel the program finds just the answers at the input, and comes to its end
 pub record FindsAnswers (t : PlainTheory) (p : PlainProgram) (x : Env) : Type 0 where

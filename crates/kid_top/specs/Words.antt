@@ -1,4 +1,4 @@
--- A command of the program, as contracts see it.
+-- What a command of the program stands for, and which commands can be run.
 use Rattle.std.specs.Prelude.{◌≢◌, ◌<◌, ◌^◌}
 use Rattle.kid_top.specs.declared.words.Command.{Command as Given}
 use Rattle.kid_top.specs.declared.words.Command.TheVariants.{Derive, Run, Solve}

@@ -2,7 +2,7 @@
 ghost use Rattle.std.specs.Prelude.{◌≡◌, true, IfOk, codes};
 ghost use Rattle.kid_sexp.specs.Plain.{atom, list, one, join, none};
 ghost use Rattle.kid_sexp.specs.Tree.{plain};
-ghost use Rattle.kid_value.specs.PlainSort.{in_limits, is_allowed};
+ghost use Rattle.kid_value.specs.SortLimits.{in_limits, is_allowed};
 ghost use Rattle.kid_value.specs.SortView.{plain_sort};
 ghost use Rattle.kid_codec.specs.SortSpelling.{number_tree};
 ghost use Rattle.kid_prog.specs.ProgramView.{plain_program};

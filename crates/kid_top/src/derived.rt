@@ -3,7 +3,7 @@ ghost use Rattle.std.specs.Prelude.{◌≡◌, true, IfOk, IsErrOf};
 ghost use Rattle.kid_outer.specs.Causes.{NeverFall, Rose};
 ghost use Rattle.kid_kernel.specs.PlainTheory.{plain_theory};
 ghost use Rattle.kid_theory.specs.IsTheory.{IsTheory};
-ghost use Rattle.kid_prog.specs.Laws.{program_text};
+ghost use Rattle.kid_prog.specs.ProgramText.{program_text};
 ghost use Rattle.kid_prog.specs.Loading.{loading};
 ghost use Rattle.kid_prog.specs.ProgramView.{plain_program};
 ghost use Rattle.kid_prog.specs.Rules.{IsRunnable};

@@ -6,7 +6,8 @@ use Rattle.std.proofs.lemmas.Bool.Decides.{nat_tests}
 use Rattle.std.proofs.lemmas.Nat.{mul-le}
 use Rattle.std.proofs.lemmas.Grind.{pow_more}
 use Rattle.std.proofs.Math.Nat.{pow-suc, pow-zero, mul-zero, zero-mul, mul_comm, le-mul_of_pos_right, one-le-pow, pow-le-pow_left, pow-le-pow_right}
-use Rattle.kid_value.specs.PlainSort.{PlainSort, never, bools, ints, pairs, sets, seqs, maps, capped, capped_power, capped_sequences, sequence_count, count_of}
+use Rattle.kid_value.specs.PlainSort.{PlainSort, never, bools, ints, pairs, sets, seqs, maps}
+use Rattle.kid_value.specs.SortCount.{capped, capped_power, capped_sequences, sequence_count, count_of}
 use Rattle.kid_value.specs.ValueCount.{value_count}
 
 past : (n : ℕ) → 65537 ≤ n → capped n ≡ 65537

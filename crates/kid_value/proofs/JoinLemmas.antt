@@ -6,7 +6,8 @@ use Rattle.std.specs.Int.{int_min, int_max}
 use Rattle.std.proofs.lemmas.Int.{ints as int_rules}
 use Rattle.std.proofs.lemmas.Bool.Decides.{nat_tests}
 use Rattle.kid_value.specs.Join.{IsJoin}
-use Rattle.kid_value.specs.PlainSort.{PlainSort, never, bools, ints, pairs, sets, seqs, maps, is_subsort, join, both}
+use Rattle.kid_value.specs.PlainSort.{PlainSort, never, bools, ints, pairs, sets, seqs, maps}
+use Rattle.kid_value.specs.SortOrder.{is_subsort, join, both}
 use Rattle.kid_value.specs.SortView.{plain_sort}
 use Rattle.kid_value.specs.declared.sort.Sort.{Sort}
 use Rattle.kid_value.proofs.SortLemmas.{and_parts, and_both, int_le-itself, int_le-min_left, int_le-min_right, int_le-max_left, int_le-max_right}

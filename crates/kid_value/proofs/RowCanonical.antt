@@ -7,7 +7,7 @@ use Rattle.std.proofs.lemmas.Int.{ints as int_rules}
 use Rattle.kid_value.specs.Canonical.{IsCanonical, AreCanonical, EntriesAreCanonical}
 use Rattle.kid_value.specs.PlainValue as value
 use Rattle.kid_value.specs.PlainValue.{PlainValue, int, bool, PlainValues, PlainEntries, row, table, entries}
-use Rattle.kid_value.specs.PlainSort.{interval_count}
+use Rattle.kid_value.specs.SortCount.{interval_count}
 use Rattle.kid_value.specs.ValueMap.{keys, lookup, put_entry}
 use Rattle.kid_value.specs.ValueOrder.{Before}
 use Rattle.kid_value.specs.ValueSet as sets

@@ -9,8 +9,10 @@ use Rattle.std.proofs.lemmas.Bool.Decides.{nat_tests}
 use Rattle.kid_value.specs.PlainValue.{PlainValue, int, pair, set, seq, map_of, items, entries}
 use Rattle.kid_value.specs.ValueOrder.{value_cmp}
 use Rattle.kid_value.specs.ValueSet.{put, put_by, union}
-use Rattle.kid_value.specs.Rows.{members_of}
-use Rattle.kid_value.specs.PlainSort.{PlainSort, never, bools, ints, pairs, sets, seqs, maps, has_sort, is_subsort, sort_depth}
+use Rattle.kid_value.specs.Rows.Parts.{members_of}
+use Rattle.kid_value.specs.PlainSort.{PlainSort, never, bools, ints, pairs, sets, seqs, maps, has_sort}
+use Rattle.kid_value.specs.SortOrder.{is_subsort}
+use Rattle.kid_value.specs.SortLimits.{sort_depth}
 
 pub and_parts : (b c : Bool) → (b && c) ≡ true → (b ≡ true) × (c ≡ true)
 and_parts true c p = (refl, p)

@@ -1,6 +1,7 @@
 -- What the join of two sorts is.
 use Rattle.std.specs.Prelude.{◌≡◌, true, Option, Some, None}
-use Rattle.kid_value.specs.PlainSort.{PlainSort, is_subsort}
+use Rattle.kid_value.specs.PlainSort.{PlainSort}
+use Rattle.kid_value.specs.SortOrder.{is_subsort}
 
 -- the sort is above both and below each other that is; there is none where no sort is above both
 abbrev pub IsJoin : PlainSort → PlainSort → Option PlainSort → Type 0

@@ -1,9 +1,9 @@
--- How the logic stores a value, and why a value is deeper than its parts.
-use Rattle.std.specs.Prelude.{◌≡◌, ℕ, List, refl, pos, negsuc, true, false}
+-- How the logic stores a value.
+use Rattle.std.specs.Prelude.{◌≡◌, List, refl, pos, negsuc, true, false}
 use Rattle.std.proofs.Common.{ap, ◌∙◌, sym}
 use Rattle.std.specs.Coded.{Coded, coded_list, coded×}
 use base.Stored.{Gv, gnil, gnum, gcons}
-use Rattle.kid_value.specs.PlainValue.{PlainValue, int, bool, pair, set, seq, map_of, PlainValues, none, more, PlainEntries, no_entry, entry, row, table, heights, entry_heights}
+use Rattle.kid_value.specs.PlainValue.{PlainValue, int, bool, pair, set, seq, map_of, PlainValues, none, more, PlainEntries, no_entry, entry}
 
 abbrev mutual
   pub code : PlainValue → Gv
@@ -75,10 +75,3 @@ coded_values = coded_list coded_value
 
 abbrev pub coded_entries : Coded (List (PlainValue × PlainValue))
 coded_entries = coded_list (coded× coded_value coded_value)
-
--- the depth of a list
-abbrev pub list_height : List PlainValue → ℕ
-list_height vs = heights (row vs)
-
-abbrev pub entries_height : List (PlainValue × PlainValue) → ℕ
-entries_height es = entry_heights (table es)

@@ -1,6 +1,7 @@
 -- How many values a sort has. The numbers are too large to be computed.
 use Rattle.std.specs.Prelude.{ℕ, ◌+◌, ◌*◌, ◌^◌}
-use Rattle.kid_value.specs.PlainSort.{PlainSort, never, bools, ints, pairs, sets, seqs, maps, interval_count, sequence_count}
+use Rattle.kid_value.specs.PlainSort.{PlainSort, never, bools, ints, pairs, sets, seqs, maps}
+use Rattle.kid_value.specs.SortCount.{interval_count, sequence_count}
 
 unfoldable pub value_count : PlainSort → ℕ
 value_count never = 0

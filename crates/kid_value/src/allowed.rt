@@ -1,5 +1,6 @@
 ghost use Rattle.std.specs.Prelude.{◌≡◌, nat_le};
-ghost use Rattle.kid_value.specs.PlainSort.{in_limits as lies_within, is_allowed, is_bounded as bounded, sort_depth, has_never as holds_never};
+ghost use Rattle.kid_value.specs.SortLimits.{in_limits as lies_within, is_allowed, is_bounded as bounded, sort_depth};
+ghost use Rattle.kid_value.specs.PlainSort.{has_never as holds_never};
 ghost use Rattle.kid_value.specs.SortView.{plain_sort};
 
 use crate::count::count_of;

@@ -1,5 +1,5 @@
 ghost use Rattle.std.specs.Prelude.{◌≡◌, ◌*◌, ◌+◌, ◌^◌, ◌≤◌, min};
-ghost use Rattle.kid_value.specs.PlainSort.{capped as capped_at, interval_count, capped_power, capped_sequences, count_of as counted};
+ghost use Rattle.kid_value.specs.SortCount.{capped as capped_at, interval_count, capped_power, capped_sequences, count_of as counted};
 ghost use Rattle.kid_value.specs.SortView.{plain_sort};
 ghost use Rattle.kid_value.specs.ValueCount.{value_count};
 

@@ -22,7 +22,8 @@ pub struct Entries {
 impl Model for Entries {
     ghost use Rattle.std.specs.Prelude.{List, map};
     ghost use Rattle.kid_value.specs.PlainValue.{PlainValue, map_of, table};
-    ghost use Rattle.kid_value.specs.ValueCode.{coded_entries, entries_height};
+    ghost use Rattle.kid_value.specs.Heights.{entries_height};
+    ghost use Rattle.kid_value.specs.ValueCode.{coded_entries};
 
     ghost Value = { List (PlainValue × PlainValue) };
 

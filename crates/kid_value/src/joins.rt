@@ -1,7 +1,8 @@
 ghost use Rattle.std.specs.Prelude.{◌≡◌, IfOk, true};
 ghost use Rattle.std.specs.Option.{option_map};
 ghost use Rattle.kid_value.specs.Join.{IsJoin};
-ghost use Rattle.kid_value.specs.PlainSort.{has_sort, is_subsort, join as join_of, both, pairs, sets, seqs, maps};
+ghost use Rattle.kid_value.specs.PlainSort.{has_sort, pairs, sets, seqs, maps};
+ghost use Rattle.kid_value.specs.SortOrder.{is_subsort, join as join_of, both};
 ghost use Rattle.kid_value.specs.PlainValue.{PlainValue};
 ghost use Rattle.kid_value.specs.SortView.{plain_sort};
 

@@ -22,7 +22,8 @@ pub struct Members {
 impl Model for Members {
     ghost use Rattle.std.specs.Prelude.{List, map};
     ghost use Rattle.kid_value.specs.PlainValue.{PlainValue, set, row};
-    ghost use Rattle.kid_value.specs.ValueCode.{coded_values, list_height};
+    ghost use Rattle.kid_value.specs.Heights.{list_height};
+    ghost use Rattle.kid_value.specs.ValueCode.{coded_values};
 
     ghost Value = { List PlainValue };
 

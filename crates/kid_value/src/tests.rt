@@ -234,3 +234,43 @@ fn lists_texts_and_names(rt: HostRuntime) -> Result<(), Fail> {
     assert_eq!(rt; names.items().len(), 1);
     Ok(())
 }
+
+fn many_texts(alloc: Global, count: usize) -> Result<Texts, Memory> {
+    let mut texts = Texts::new(alloc);
+    for _ in 0..count {
+        let text = Text::from_slice(alloc, b"a")?;
+        texts.push(text)?;
+    }
+    Ok(texts)
+}
+
+/// So many numbers, the first of them put twice.
+fn many_members(alloc: Global, count: i64) -> Result<Members, Memory> {
+    let mut members = Members::new(alloc);
+    for n in 0..count {
+        members.put(Value::Int(n))?;
+    }
+    members.put(Value::Int(0))?;
+    Ok(members)
+}
+
+#[test]
+fn holds_many(rt: HostRuntime) -> Result<(), Fail> {
+    assert_eq!(rt; many_texts(rt.alloc(), 1000)?.items().len(), 1000);
+    assert_eq!(rt; many_members(rt.alloc(), 65536)?.items().len(), 65536);
+    Ok(())
+}
+
+#[test]
+fn copies_truth_values(rt: HostRuntime) -> Result<(), Fail> {
+    let copy = Value::Bool(true).copy(rt.alloc())?;
+    assert!(rt; in_order(&Value::Bool(false), &copy));
+    Ok(())
+}
+
+#[test]
+fn joins_no_unlike_sorts(rt: HostRuntime) -> Result<(), Fail> {
+    let number = Sort::Int { lo: 1, hi: 2 };
+    assert!(rt; join(rt.alloc(), &Sort::Bool, &number)?.is_none());
+    Ok(())
+}

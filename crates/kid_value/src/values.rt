@@ -18,7 +18,8 @@ pub struct Values {
 impl Model for Values {
     ghost use Rattle.std.specs.Prelude.{List, map};
     ghost use Rattle.kid_value.specs.PlainValue.{PlainValue, seq, row};
-    ghost use Rattle.kid_value.specs.ValueCode.{coded_values, list_height};
+    ghost use Rattle.kid_value.specs.Heights.{list_height};
+    ghost use Rattle.kid_value.specs.ValueCode.{coded_values};
 
     ghost Value = { List PlainValue };
 

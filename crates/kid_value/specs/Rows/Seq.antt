@@ -3,7 +3,7 @@ use Rattle.std.specs.Prelude.{zero, suc, â„¤, pos, negsuc, Bool, true, false, â—
 use Rattle.kid_value.specs.PlainValue.{PlainValue, int, bool}
 use Rattle.kid_value.specs.PlainValue as value
 use Rattle.kid_value.specs.Rows.Kinds.{wrong_kind, set_of_all, sequence_from, natural}
-use Rattle.kid_value.specs.Rows.Set.{total_of}
+use Rattle.kid_value.specs.Rows.Parts.{total as total_of}
 use Rattle.kid_value.specs.ValueSet.{value_eq}
 
 -- the item at a place, or d where there is none

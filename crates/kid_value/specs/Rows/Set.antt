@@ -1,8 +1,9 @@
 -- The operators on sets. Those that make a set are given by its members.
 use Rattle.std.specs.Prelude.{ℕ, zero, suc, ℤ, pos, ◌+ℤ◌, not, List, [], ◌∷◌, length, filter}
-use Rattle.kid_value.specs.PlainSort.{interval_count}
+use Rattle.kid_value.specs.SortCount.{interval_count}
 use Rattle.kid_value.specs.PlainValue.{PlainValue, int, bool, set, items}
 use Rattle.kid_value.specs.Rows.Kinds.{wrong_kind, set_from, set_of_all}
+use Rattle.kid_value.specs.Rows.Parts.{total}
 use Rattle.kid_value.specs.ValueSet as sets
 use Rattle.kid_value.specs.ValueSet.{value_eq, is_member}
 
@@ -10,16 +11,6 @@ use Rattle.kid_value.specs.ValueSet.{value_eq, is_member}
 abbrev pub numbers : ℤ → ℕ → List PlainValue
 numbers a zero = []
 numbers a (suc n) = int a ∷ numbers (a +ℤ pos 1) n
-
--- the number that a value is, and 0 for a value that is none
-abbrev pub number_of : PlainValue → ℤ
-number_of (int n) = n
-number_of v = pos 0
-
--- the sum of a list's numbers
-abbrev pub total_of : List PlainValue → ℤ
-total_of [] = pos 0
-total_of (v ∷ vs) = number_of v +ℤ total_of vs
 
 -- the first of a list, or d where it is empty
 abbrev pub first_or : List PlainValue → PlainValue → PlainValue
@@ -66,7 +57,7 @@ card (set vs) = int (pos (length (items vs)))
 card v = wrong_kind
 
 abbrev pub sum : PlainValue → PlainValue
-sum (set vs) = int (total_of (items vs))
+sum (set vs) = int (total (items vs))
 sum v = wrong_kind
 
 abbrev pub least : PlainValue → PlainValue → PlainValue

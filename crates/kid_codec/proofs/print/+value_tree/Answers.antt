@@ -1,5 +1,5 @@
 use Rattle.std.proofs.Common.{ap, ◌∙◌}
-use Rattle.kid_sexp.specs.Plain.{Plain, list, more, one}
+use Rattle.kid_sexp.specs.Plain.{list, more, one}
 use Rattle.kid_sexp.specs.Tree.{plain as plain_tree}
 use Rattle.kid_codec.proofs.Each.{print-step, print-end}
 use Rattle.kid_codec.proofs.Printed.{values_print, entries_print, values_deep, entries_deep}

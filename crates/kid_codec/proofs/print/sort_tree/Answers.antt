@@ -1,4 +1,4 @@
-use Rattle.std.proofs.Common.{◌≡◌, Ok, Some, ap, ◌∙◌}
+use Rattle.std.proofs.Common.{◌≡◌, Ok, ap, ◌∙◌}
 use Rattle.std.proofs.lemmas.Result.{IfOk-weaker}
 use Rattle.kid_sexp.specs.Tree.{plain as plain_tree}
 use Rattle.kid_sexp.specs.declared.tree.Tree.{Tree}

@@ -1,5 +1,5 @@
 use Rattle.std.proofs.Common.{◌+◌, ◌*◌}
-use Rattle.kid_sexp.specs.Plain.{tree_size, forest_size}
+use Rattle.kid_sexp.specs.TreeSize.{tree_size, forest_size}
 use Rattle.kid_sexp.specs.Tree.{plain, plains}
 use Rattle.kid_codec.proofs.sort.+spelled_sort.Given as goal
 

@@ -1,4 +1,4 @@
-use Rattle.std.proofs.Common.{ℕ, List, [], ◌∷◌, ◌++◌, Option, Some, None, sym, ap, ◌∙◌}
+use Rattle.std.proofs.Common.{◌++◌, Some, ◌∙◌}
 use Rattle.kid_term.specs.TermView.{plain_term}
 use Rattle.kid_codec.proofs.Each.{read-step, read-end, size-step}
 use Rattle.kid_codec.proofs.Taken.{terms_each, pushed, ended}

@@ -1,8 +1,7 @@
-use Rattle.std.proofs.Common.{ℕ, List, [], ◌∷◌, ◌++◌, Option, Some, None, sym, ap, ◌∙◌}
-use Rattle.kid_value.specs.PlainValue.{PlainValue}
+use Rattle.std.proofs.Common.{◌++◌, Some, ◌∙◌}
 use Rattle.kid_value.specs.ValueView.{plain, plain_entry}
 use Rattle.kid_codec.specs.ValueSpelling.{with_entries}
-use Rattle.kid_codec.proofs.Each.{read-step, read-none, read-end, size-step}
+use Rattle.kid_codec.proofs.Each.{read-step, read-end, size-step}
 use Rattle.kid_codec.proofs.Puts.{puts}
 use Rattle.kid_codec.proofs.Taken.{values_each, entries_each, pushed, ended, member_put, set_read, entry_put}
 use Rattle.kid_codec.proofs.value.+spelled_value.Goals as goal

@@ -1,5 +1,5 @@
 use Rattle.std.proofs.Common.{◌≡◌, ◌+◌, ◌*◌, ◌≤◌, ◌++◌, [], drop, Some}
-use Rattle.kid_sexp.specs.Plain.{tree_size, forest_size}
+use Rattle.kid_sexp.specs.TreeSize.{tree_size, forest_size}
 use Rattle.kid_sexp.specs.Tree.{plain, plains}
 use Rattle.kid_codec.specs.Reading.{◌>>=◌}
 use Rattle.kid_codec.specs.ValueSpelling.{spelled_values, spelled_entries, with_entries}

@@ -1,4 +1,3 @@
-use Rattle.std.proofs.Common.{refl}
 use Rattle.kid_codec.specs.Word.{op_of}
 use Rattle.kid_codec.proofs.Words.{op_found}
 use Rattle.kid_codec.proofs.word.op_of.Goals as goal

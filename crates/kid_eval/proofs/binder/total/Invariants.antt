@@ -1,7 +1,7 @@
 use Rattle.std.proofs.Common.{◌≡◌, ◌+ℤ◌, true, map, drop}
 use Rattle.kid_value.specs.ValueView.{plain}
-use Rattle.kid_value.specs.Rows.{total}
-use Rattle.kid_term.specs.Small.{sums_small}
+use Rattle.kid_value.specs.Rows.Parts.{total}
+use Rattle.kid_value.specs.Rows.Sums.{sums_small}
 use Rattle.kid_eval.proofs.binder.total.Given as goal
 
 abbrev pub invariant-loop-v : goal.invariant-loop-v

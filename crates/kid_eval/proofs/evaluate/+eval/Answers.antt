@@ -3,7 +3,8 @@ use Rattle.std.specs.Prelude.{IfOk, not, filter}
 use Rattle.kid_value.specs.PlainValue.{bool}
 use Rattle.kid_value.specs.ValueView.{plain}
 use Rattle.kid_value.specs.SortView.{plain_sort}
-use Rattle.kid_value.specs.Rows.{truth_of, members_of, set_from}
+use Rattle.kid_value.specs.Rows.Parts.{truth_of, members_of}
+use Rattle.kid_value.specs.Rows.Kinds.{set_from}
 use Rattle.kid_term.specs.PlainTerm.{term_row}
 use Rattle.kid_term.specs.TermView.{plain_term}
 use Rattle.kid_term.specs.DefView.{plain_def}

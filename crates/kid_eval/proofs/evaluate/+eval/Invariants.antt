@@ -1,7 +1,7 @@
 use Rattle.std.proofs.Common.{◌≡◌, ◌++◌, ◌+◌, ◌*◌, true, map, drop}
 use Rattle.std.specs.List.{list_all}
 use Rattle.kid_value.specs.ValueView.{plain}
-use Rattle.kid_value.specs.Rows.{truth_of}
+use Rattle.kid_value.specs.Rows.Parts.{truth_of}
 use Rattle.kid_term.specs.TermView.{plain_term}
 use Rattle.kid_term.specs.DefView.{plain_def}
 use Rattle.kid_term.specs.PlainTerm.{term_row}

@@ -1,7 +1,7 @@
 use Rattle.std.proofs.Common.{◌≡◌, ◌++◌, map, drop}
 use Rattle.kid_value.specs.ValueSet.{Ascends}
 use Rattle.kid_value.specs.ValueView.{plain}
-use Rattle.kid_ops.specs.Merged.{chosen}
+use Rattle.kid_ops.specs.Chosen.{chosen}
 use Rattle.kid_ops.proofs.merge.choose.Given as goal
 
 abbrev pub invariant-loop-x : goal.invariant-loop-x

@@ -1,6 +1,6 @@
 use Rattle.std.proofs.Common.{◌≡◌, ℤ, pos, ◌+ℤ◌, ◌<ℤ◌, ◌∷◌, [], ◌++◌, to_z, of_z, w64, FitsSigned, sym, ap, ◌∙◌, append_assoc, arith, rules}
 use Rattle.std.proofs.lemmas.Int.{to_z-of_z, ints as int_rules}
-use Rattle.kid_value.specs.PlainSort.{interval_count}
+use Rattle.kid_value.specs.SortCount.{interval_count}
 use Rattle.kid_value.specs.PlainValue.{int}
 use Rattle.kid_value.specs.Rows.Set.{numbers}
 use Rattle.kid_ops.proofs.NumberLemmas.{numbers-next}

@@ -1,5 +1,5 @@
 use Rattle.std.proofs.Common.{ℤ, sym, subst, to_z, of_z, w64}
-use Rattle.kid_value.specs.PlainSort.{interval_count}
+use Rattle.kid_value.specs.SortCount.{interval_count}
 use Rattle.kid_value.specs.PlainValue.{int}
 use Rattle.kid_value.specs.ValueSet.{Ascends}
 use Rattle.kid_value.specs.Rows.Set.{numbers}

@@ -1,8 +1,8 @@
 use Rattle.std.proofs.Common.{◌≡◌, ◌+◌, ◌+ℤ◌, true, map, drop, to_z, of_z, w64, FitsSigned, refl, sym, ap, ◌∙◌, subst, arith, rules}
 use Rattle.std.proofs.lemmas.Int.{to_z-of_z}
-use Rattle.kid_value.specs.Rows.Set.{number_of, total_of}
+use Rattle.kid_value.specs.Rows.Parts.{number_of, total as total_of}
 use Rattle.kid_value.specs.ValueView.{plain}
-use Rattle.kid_ops.specs.Sums.{sums_small}
+use Rattle.kid_value.specs.Rows.Sums.{sums_small}
 use Rattle.kid_ops.proofs.SumLemmas.{added_small}
 use Rattle.kid_ops.proofs.set.total_of.Goals as goal
 

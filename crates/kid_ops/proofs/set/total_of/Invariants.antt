@@ -1,7 +1,7 @@
 use Rattle.std.proofs.Common.{◌≡◌, ◌+ℤ◌, true, map, drop}
 use Rattle.kid_value.specs.ValueView.{plain}
-use Rattle.kid_value.specs.Rows.Set.{total_of}
-use Rattle.kid_ops.specs.Sums.{sums_small}
+use Rattle.kid_value.specs.Rows.Parts.{total as total_of}
+use Rattle.kid_value.specs.Rows.Sums.{sums_small}
 use Rattle.kid_ops.proofs.set.total_of.Given as goal
 
 abbrev pub invariant-loop-v : goal.invariant-loop-v

@@ -4,7 +4,7 @@ use Rattle.kid_value.specs.PlainValue.{int}
 use Rattle.kid_value.specs.Rows.Word.{place_above, rget}
 use Rattle.kid_value.specs.ValueView.{plain}
 use Rattle.kid_value.proofs.RowLemmas.{items_row}
-use Rattle.kid_ops.specs.Bits.{value_of_row}
+use Rattle.kid_ops.specs.RowItems.{value_of_row}
 use Rattle.kid_ops.proofs.word.rget.Goals as goal
 
 pub returns-in-Seq : goal.returns-in-Seq

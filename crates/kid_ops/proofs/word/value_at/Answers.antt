@@ -1,7 +1,7 @@
 use Rattle.std.proofs.Common.{◌≤◌, length, map, sym, ap, ◌∙◌, arith}
 use Rattle.std.proofs.lemmas.Bool.Decides.{nat_tests}
 use Rattle.kid_value.specs.ValueView.{plain}
-use Rattle.kid_ops.specs.Bits.{value_of_row}
+use Rattle.kid_ops.specs.RowItems.{value_of_row}
 use Rattle.kid_ops.proofs.RowItems.{value-there, value-past}
 use Rattle.kid_ops.proofs.word.value_at.Goals as goal
 

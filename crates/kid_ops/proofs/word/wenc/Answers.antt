@@ -1,11 +1,11 @@
 use Rattle.std.proofs.Common.{◌≡◌, ◌≤◌, true, pos, subst, sym, ap, ◌∙◌, to_z, of_z, w64, FitsSigned, rules}
 use Rattle.std.proofs.lemmas.Int.{to_z-of_z}
-use Rattle.kid_value.specs.PlainSort.{in_limits}
+use Rattle.kid_value.specs.SortLimits.{in_limits}
 use Rattle.kid_value.specs.PlainValue.{int}
 use Rattle.kid_value.specs.ValueSet.{is_member}
 use Rattle.kid_value.specs.ValueView.{plain}
 use Rattle.kid_value.specs.Rows.Kinds.{natural}
-use Rattle.kid_value.specs.Rows.Set.{number_of}
+use Rattle.kid_value.specs.Rows.Parts.{number_of}
 use Rattle.kid_value.specs.Rows.Word.{word_of, key_at, wenc}
 use Rattle.kid_value.proofs.RowLemmas.{items_row}
 use Rattle.kid_ops.proofs.BitLemmas.{small_word}

@@ -1,7 +1,7 @@
 use Rattle.std.proofs.Common.{sym, ◌∙◌, ◌+◌, subst, arith}
 use Rattle.kid_prog.specs.PlainStmt.{stmt_row}
 use Rattle.kid_prog.specs.ProgramView.{plain_program}
-use Rattle.kid_prog.specs.StageAnswers.{plain_heading}
+use Rattle.kid_prog.specs.HeadingView.{plain_heading}
 use Rattle.kid_prog.specs.Loading.{Loads}
 use Rattle.kid_prog.proofs.StageLemmas.{main-next}
 use Rattle.kid_prog.proofs.loader.after_main.Goals as goal

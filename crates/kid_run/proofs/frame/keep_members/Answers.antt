@@ -1,7 +1,7 @@
 use Rattle.std.proofs.Common.{◌≡◌, arith, sym, ap, ◌∙◌, length, map}
 use Rattle.std.proofs.lemmas.List.{length-map}
 use Rattle.kid_value.specs.ValueView.{plain}
-use Rattle.kid_value.specs.Rows.{members_of}
+use Rattle.kid_value.specs.Rows.Parts.{members_of}
 use Rattle.kid_run.specs.FrameView.{plain_stmts, plain_frames}
 use Rattle.kid_run.proofs.FrameLemmas.{pushed_first, overs-some}
 use Rattle.kid_run.proofs.frame.keep_members.Goals as goal

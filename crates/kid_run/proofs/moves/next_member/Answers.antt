@@ -1,6 +1,6 @@
 use Rattle.std.proofs.Common.{rules, ◌≡◌, ◌∷◌, ◌+◌, drop, ◌∙◌}
 use Rattle.kid_value.specs.ValueView.{plain}
-use Rattle.kid_value.specs.Rows.{members_of}
+use Rattle.kid_value.specs.Rows.Parts.{members_of}
 use Rattle.kid_run.specs.FrameView.{plain_machine, plain_stmts, plain_frames, members_left}
 use Rattle.kid_run.proofs.FrameLemmas.{left-first, next-some}
 use Rattle.kid_run.proofs.moves.next_member.Goals as goal

@@ -1,5 +1,5 @@
 use Rattle.std.proofs.Common.{◌≡◌, ◌≤◌, ◌++◌, drop}
-use Rattle.kid_sexp.specs.Plain.{tree_size, forest_size}
+use Rattle.kid_sexp.specs.TreeSize.{tree_size, forest_size}
 use Rattle.kid_sexp.specs.Printing.{further}
 use Rattle.kid_sexp.specs.Tree.{plain, plains}
 use Rattle.kid_sexp.proofs.printer.+put.Given as goal

@@ -1,10 +1,9 @@
-use Rattle.std.proofs.Common.{◌≡◌, ◌≤◌, ◌+◌, ◌*◌, ◌++◌, map, drop, Ok}
+use Rattle.std.proofs.Common.{◌≡◌, ◌≤◌, ◌+◌, ◌*◌, map, drop}
 use Rattle.kid_value.specs.SortView.{plain_sort}
 use Rattle.kid_term.specs.DefView.{plain_def}
 use Rattle.kid_term.specs.Names.{latest_first}
 use Rattle.kid_term.specs.PlainTerm.{node_count, node_counts, term_row}
 use Rattle.kid_term.specs.TermView.{plain_term}
-use Rattle.kid_term.specs.Sorted.{◌>>=◌}
 use Rattle.kid_term.specs.Sorting.{least_sorts}
 use Rattle.kid_sorting.specs.ScopeView.{names_of}
 use Rattle.kid_sorting.proofs.Fronts.{with_front}

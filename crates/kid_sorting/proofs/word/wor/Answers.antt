@@ -1,4 +1,4 @@
-use Rattle.std.proofs.Common.{arith, rules}
+use Rattle.std.proofs.Common.{rules}
 use Rattle.kid_sorting.proofs.KeyLemmas.{two_missing, two_over}
 use Rattle.kid_sorting.proofs.word.wor.Goals.{in_default-via-then-sorts-lt2, in_default-via-else-sorts-lt2+else-sorts-lt3}
 use Rattle.kid_sorting.proofs.word.wor.Goals as goal

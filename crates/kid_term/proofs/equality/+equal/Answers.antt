@@ -1,4 +1,4 @@
-use Rattle.std.proofs.Common.{◌≡◌, map, ap, ◌∙◌, arith}
+use Rattle.std.proofs.Common.{map, ap, ◌∙◌, arith}
 use Rattle.kid_term.specs.TermView.{plain_term, plain_head}
 use Rattle.kid_term.specs.PlainTerm.{term_row, node_counts}
 use Rattle.kid_term.proofs.EqualityLemmas.{some_node, app_same}

@@ -1,5 +1,5 @@
 use Rattle.std.proofs.Common.{ap, sym, ◌∙◌, nat_le}
-use Rattle.kid_value.specs.PlainSort.{sort_depth}
+use Rattle.kid_value.specs.SortLimits.{sort_depth}
 use Rattle.kid_value.specs.SortView.{plain_sort}
 use Rattle.kid_value.proofs.SortLemmas.{never_flat}
 use Rattle.kid_value.proofs.allowed.+is_shallow.Goals as goal

@@ -1,5 +1,5 @@
 use Rattle.std.proofs.Common.{◌≡◌, ◌^◌}
-use Rattle.kid_value.specs.PlainSort.{capped}
+use Rattle.kid_value.specs.SortCount.{capped}
 use Rattle.kid_value.proofs.count.power.Given as goal
 
 abbrev pub invariant-loop : goal.invariant-loop

@@ -1,5 +1,5 @@
 use Rattle.std.proofs.Common.{◌≡◌}
-use Rattle.kid_value.specs.PlainSort.{capped, sequence_count}
+use Rattle.kid_value.specs.SortCount.{capped, sequence_count}
 use Rattle.kid_value.proofs.count.sequences.Given as goal
 
 abbrev pub invariant-loop : goal.invariant-loop

@@ -1,0 +1,13 @@
+//! The tests of kid_theory. A crate with tests is proved once with them and once without, so these stand in a crate of their own.
+#![tactic(auto)]
+
+#[cfg(test)]
+mod axioms;
+#[cfg(test)]
+mod faults;
+#[cfg(test)]
+mod forms;
+#[cfg(test)]
+mod limits;
+#[cfg(test)]
+mod over;

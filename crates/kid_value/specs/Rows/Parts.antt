@@ -1,0 +1,20 @@
+-- What a value holds: its truth value, its number, its members. A value of another kind holds false, 0 or none.
+use Rattle.std.specs.Prelude.{ℤ, pos, ◌+ℤ◌, Bool, false, List, [], ◌∷◌}
+use Rattle.kid_value.specs.PlainValue.{PlainValue, int, bool, set, items}
+
+abbrev pub truth_of : PlainValue → Bool
+truth_of (bool b) = b
+truth_of v = false
+
+abbrev pub number_of : PlainValue → ℤ
+number_of (int n) = n
+number_of v = pos 0
+
+abbrev pub members_of : PlainValue → List PlainValue
+members_of (set vs) = items vs
+members_of v = []
+
+-- the sum of the values' numbers
+abbrev pub total : List PlainValue → ℤ
+total [] = pos 0
+total (v ∷ vs) = number_of v +ℤ total vs
