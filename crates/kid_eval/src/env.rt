@@ -1,12 +1,11 @@
-ghost use Rattle.std.specs.Prelude.{◌≡◌, ◌∷◌, ◌++◌, [], OnOk, OnErr, false, MatchOption, map, reverse, length, drop};
-ghost use Rattle.kid_value.specs.PlainValue.{bool};
+ghost use Rattle.std.specs.Prelude.{◌≡◌, ◌∷◌, ◌++◌, [], OnOk, OnErr, map, reverse, length, drop};
 ghost use Rattle.kid_value.specs.NameView.{plain_name};
 ghost use Rattle.kid_value.specs.ValueView.{plain};
 ghost use Rattle.kid_term.specs.Eval.{value_at, bound};
 ghost use Rattle.kid_eval.specs.EnvView.{plain_binding};
-ghost use Rattle.kid_eval.specs.ScopeView.{env_of};
+ghost use Rattle.kid_eval.specs.ScopeView.{env_of, plain_seen};
 
-use crate::scope::Scope;
+use crate::scope::{Scope, Seen};
 use kid_term::substitute::is_same;
 use kid_value::{Memory, Sort, Text, Value};
 use std::alloc::Global;
@@ -110,36 +109,36 @@ impl<'a> Env<'a> {
     }
 }
 
-/// The value of a name among those that were put, and else among those that were lent.
+/// The value of a name among those that were put, and else among those that were lent; false where the name has none.
 #[tactic(auto, using(crate::proofs::EnvLemmas::latest_here, crate::proofs::EnvLemmas::latest_earlier))]
 pub(crate) fn latest<'a>(
     items: &'a [Binding<'a>],
     names: &'a [(Text, Sort)],
     values: &'a [Value],
     x: &Text,
-) -> Option<&'a Value>
-    ensures { MatchOption result (value_at x.now (reverse (map plain_binding items.now) ++ bound (map plain_name names.now) (map plain values.now)) ≡ bool false) (λ v. plain v.now ≡ value_at x.now (reverse (map plain_binding items.now) ++ bound (map plain_name names.now) (map plain values.now))) }
+) -> Seen<'a>
+    ensures { plain_seen result ≡ value_at x.now (reverse (map plain_binding items.now) ++ bound (map plain_name names.now) (map plain values.now)) }
 {
     match items.split_last() {
         None => given(names, values, x),
         Some((binding, earlier)) => if is_same(x, binding.name) {
-            Some(&binding.value)
+            Seen::Lent(&binding.value)
         } else {
             latest(earlier, names, values, x)
         },
     }
 }
 
-/// The value that stands at the place of the name.
-fn given<'a>(names: &[(Text, Sort)], values: &'a [Value], x: &Text) -> Option<&'a Value>
-    ensures { MatchOption result (value_at x.now (bound (map plain_name names.now) (map plain values.now)) ≡ bool false) (λ v. plain v.now ≡ value_at x.now (bound (map plain_name names.now) (map plain values.now))) }
+/// The value that stands at the place of the name, and false where the name does not stand.
+fn given<'a>(names: &[(Text, Sort)], values: &'a [Value], x: &Text) -> Seen<'a>
+    ensures { plain_seen result ≡ value_at x.now (bound (map plain_name names.now) (map plain values.now)) }
 {
     match (names.split_first(), values.split_first()) {
         (Some((name, names)), Some((value, values))) => if is_same(x, &name.0) {
-            Some(value)
+            Seen::Lent(value)
         } else {
             given(names, values, x)
         },
-        _ => None,
+        _ => Seen::Owned(Value::Bool(false)),
     }
 }

@@ -18,7 +18,7 @@ use crate::env::Env;
 use crate::logic::truth;
 use crate::opened::opened;
 use crate::row::row;
-use crate::scope::{Scope, Seen, lent, seen_value};
+use crate::scope::{Scope, Seen, look_up, seen_value};
 use crate::terms::{couple, single, triple};
 use kid_term::{Binder, Def, Defs, Head, Literal, LogicOp, Op, Term};
 use kid_value::{Memory, Sort, Text, Value};
@@ -52,7 +52,7 @@ fn value_of<'a>(
     ensures { IfOk result (λ v. plain v ≡ value_in defs.now scope.now term.now) }
 {
     match term {
-        Term::Var(x) => seen_value(&lent(scope, x)).copy(alloc),
+        Term::Var(x) => seen_value(&look_up(scope, x)).copy(alloc),
         Term::Lit(Literal::Int(n)) => Ok(Value::Int(*n)),
         Term::Lit(Literal::Bool(b)) => Ok(Value::Bool(*b)),
         Term::App(Head::Op(op), args) => operate(alloc, defs, scope, *op, args.items()),
@@ -221,7 +221,7 @@ fn see<'a>(
     ensures { IfOk result (λ v. plain_seen v ≡ value_in defs.now scope.now term.now) }
 {
     match term {
-        Term::Var(x) => Ok(lent(scope, x)),
+        Term::Var(x) => Ok(look_up(scope, x)),
         _ => {
             let v = value_of(alloc, defs, scope, term)?;
             Ok(Seen::Owned(v))

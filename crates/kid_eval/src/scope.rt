@@ -1,5 +1,4 @@
-ghost use Rattle.std.specs.Prelude.{◌≡◌, IfOk, false, MatchOption, map};
-ghost use Rattle.kid_value.specs.PlainValue.{bool};
+ghost use Rattle.std.specs.Prelude.{◌≡◌, IfOk, map};
 ghost use Rattle.kid_value.specs.ValueView.{plain};
 ghost use Rattle.kid_value.specs.NameView.{plain_name};
 ghost use Rattle.kid_term.specs.Eval.{value_at, bound};
@@ -46,44 +45,30 @@ pub fn into_owned<'a>(alloc: Global, seen: Seen<'a>) -> Result<Value, Memory>
     }
 }
 
-/// The value of a name. None only where the name has none.
-pub fn look_up<'a>(scope: &'a Scope<'a>, x: &Text) -> Option<&'a Value>
-    ensures { MatchOption result (value_at x.now (env_of scope.now) ≡ bool false) (λ v. plain v.now ≡ value_at x.now (env_of scope.now)) }
+/// The value of a name, and false where the name has none.
+pub fn look_up<'a>(scope: &'a Scope<'a>, x: &Text) -> Seen<'a>
+    ensures { plain_seen result ≡ value_at x.now (env_of scope.now) }
 {
     match *scope {
         Scope::Names(items, names, values) => latest(items, names, values, x),
         Scope::Parameters(parameters, values) => argument(parameters, values, x),
         Scope::More(y, v, rest) => if is_same(x, y) {
-            Some(v)
+            Seen::Lent(v)
         } else {
             look_up(rest, x)
         },
     }
 }
 
-/// The value of a name, and false where the name has none.
-pub fn lent<'a>(scope: &'a Scope<'a>, x: &Text) -> Seen<'a>
-    ensures { plain_seen result ≡ value_at x.now (env_of scope.now) }
-{
-    match look_up(scope, x) {
-        Some(v) => Seen::Lent(v),
-        None => Seen::Owned(Value::Bool(false)),
-    }
-}
-
-fn argument<'a>(
-    parameters: &'a [(Text, Sort)],
-    values: &'a [Seen<'a>],
-    x: &Text,
-) -> Option<&'a Value>
-    ensures { MatchOption result (value_at x.now (bound (map plain_name parameters.now) (map plain_seen values.now)) ≡ bool false) (λ v. plain v.now ≡ value_at x.now (bound (map plain_name parameters.now) (map plain_seen values.now))) }
+fn argument<'a>(parameters: &'a [(Text, Sort)], values: &'a [Seen<'a>], x: &Text) -> Seen<'a>
+    ensures { plain_seen result ≡ value_at x.now (bound (map plain_name parameters.now) (map plain_seen values.now)) }
 {
     match (parameters.split_first(), values.split_first()) {
         (Some((p, parameters)), Some((v, values))) => if is_same(x, &p.0) {
-            Some(seen_value(v))
+            Seen::Lent(seen_value(v))
         } else {
             argument(parameters, values, x)
         },
-        _ => None,
+        _ => Seen::Owned(Value::Bool(false)),
     }
 }

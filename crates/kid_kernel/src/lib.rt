@@ -7,6 +7,3 @@ mod theory;
 pub use kid_term::{RefineForm, Spec, Why};
 pub use law::{Axiom, Axioms, Conclusion, Law, Laws};
 pub use theory::Theory;
-
-#[cfg(test)]
-mod tests;

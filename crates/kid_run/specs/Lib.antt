@@ -9,3 +9,4 @@ pub mod FrameView
 pub mod MoveView
 pub mod Account
 pub mod Sample
+pub mod Failed

@@ -1,7 +1,9 @@
 //! Lines that are put.
 ghost use Rattle.std.specs.Prelude.{◌≡◌, ◌≤◌, ◌++◌, OnOk, IsErrOf, option_map};
+ghost use Rattle.std.specs.Bool.{OnFalse};
 ghost use Rattle.kid_outer.specs.Causes.{Rose};
 ghost use Rattle.kid_outer.specs.Written.{AppendsPrefix};
+ghost use Rattle.kid_run.specs.Failed.{put_failed};
 ghost use Rattle.kid_run.specs.Lines.{text_of};
 
 use crate::runner::RunFault;
@@ -16,6 +18,7 @@ fn put_line<O: Sink>(alloc: Global, out: &mut O, line: &[u8]) -> Result<(), RunF
     ensures front { AppendsPrefix line.now (O.written out.old) (O.written out.new) }
     ensures failed { IsErrOf result RunFault.PutFailed → Rose (O.faults out.old) (O.faults out.new) }
     ensures memory { IsErrOf result RunFault.Memory → O.written out.new ≡ O.written out.old }
+    ensures still { OnFalse (put_failed result) (O.faults out.new ≡ O.faults out.old) }
     ensures later { O.faults out.old ≤ O.faults out.new }
 {
     match out.put(alloc, line) {
@@ -30,6 +33,7 @@ pub fn put_lines<O: Sink>(alloc: Global, out: &mut O, lines: &[Text]) -> Result<
     ensures ok { OnOk result (O.written out.new ≡ option_map (λ w. w ++ text_of lines.now) (O.written out.old)) }
     ensures front { AppendsPrefix (text_of lines.now) (O.written out.old) (O.written out.new) }
     ensures failed { IsErrOf result RunFault.PutFailed → Rose (O.faults out.old) (O.faults out.new) }
+    ensures still { OnFalse (put_failed result) (O.faults out.new ≡ O.faults out.old) }
     ensures later { O.faults out.old ≤ O.faults out.new }
 {
     for line in lines {

@@ -1,8 +1,10 @@
 ghost use Rattle.std.specs.Prelude.{◌≡◌, ◌<◌, ◌≤◌, ◌++◌, ◌^◌, IfOk, OnOk, IsErrOf, option_map};
+ghost use Rattle.std.specs.Bool.{OnFalse};
 ghost use Rattle.kid_outer.specs.Causes.{Rose};
 ghost use Rattle.kid_outer.specs.Written.{AppendsPrefix};
 ghost use Rattle.kid_prog.specs.ProgramView.{plain_program};
 ghost use Rattle.kid_prog.specs.Rules.{IsRunnable};
+ghost use Rattle.kid_run.specs.Failed.{put_failed};
 ghost use Rattle.kid_run.specs.InputReading.{envs_of, AllFit};
 ghost use Rattle.kid_run.specs.Lines.{run_text};
 ghost use Rattle.kid_run.specs.Reporting.{report_of};
@@ -48,8 +50,8 @@ impl<T: Drop> From<AllocFailed<T>> for RunFault {
 ///
 /// # Errors
 ///
-/// `PutFailed`: a put failed, which the sink's count shows. `Memory`: memory is wanting. A front of the text was put then. The
-/// sink's count never falls.
+/// `PutFailed`: a put failed, which the sink's count shows; after any other end the count is what it was. `Memory`: memory is
+/// wanting. A front of the text was put then.
 pub fn run<O: Sink>(
     alloc: Global,
     program: &Program,
@@ -64,6 +66,7 @@ pub fn run<O: Sink>(
     ensures text { OnOk result (O.written out.new ≡ option_map (λ w. w ++ run_text (plain_program program.now) fuel (envs_of (plain_program program.now).inputs inputs.now)) (O.written out.old)) }
     ensures front { AppendsPrefix (run_text (plain_program program.now) fuel (envs_of (plain_program program.now).inputs inputs.now)) (O.written out.old) (O.written out.new) }
     ensures failed { IsErrOf result RunFault.PutFailed → Rose (O.faults out.old) (O.faults out.new) }
+    ensures still { OnFalse (put_failed result) (O.faults out.new ≡ O.faults out.old) }
     ensures later { O.faults out.old ≤ O.faults out.new }
 {
     let mut entries = Vec::new(alloc);

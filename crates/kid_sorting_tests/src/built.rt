@@ -1,6 +1,6 @@
 //! What the tests build. A term may be given as it was built, so that a test has no error of its own to hand on.
 use kid_sorting::SortFault;
-use kid_term::{Head, Literal, Op, Term, Terms};
+use kid_term::{Head, Literal, NumberOp, Op, Term, Terms};
 use kid_value::{Names, Sort, Text};
 use std::alloc::Global;
 
@@ -136,4 +136,23 @@ pub fn applied(alloc: Global, op: Op, numbers: Numbers, letters: &str) -> Result
         terms.push(Term::Var(Text::from_slice(alloc, &[*byte])?))?;
     }
     Ok(Term::App(Head::Op(op), terms))
+}
+
+pub fn push(terms: &mut Terms, term: Result<Term, SortFault>) -> Result<(), SortFault> {
+    Ok(terms.push(term?)?)
+}
+
+pub fn one(alloc: Global, head: Head, a: Result<Term, SortFault>) -> Result<Term, SortFault> {
+    let mut args = Terms::new(alloc);
+    push(&mut args, a)?;
+    Ok(Term::App(head, args))
+}
+
+/// 1 below so many negations.
+pub fn negations(alloc: Global, count: u32) -> Result<Term, SortFault> {
+    let mut term = number(1);
+    for _ in 0..count {
+        term = one(alloc, Head::Op(Op::Number(NumberOp::Neg)), Ok(term))?;
+    }
+    Ok(term)
 }

@@ -4,6 +4,8 @@
 #[cfg(test)]
 mod built;
 #[cfg(test)]
+mod judged;
+#[cfg(test)]
 mod operators;
 #[cfg(test)]
 mod over;

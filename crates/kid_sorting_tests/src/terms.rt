@@ -1,21 +1,11 @@
 //! Terms with binders, calls and casts, and the limits of terms.
-use crate::built::{Made, Part, names, number, sort, text, var};
+use crate::built::{Made, Part, names, negations, number, one, push, sort, text, var};
 use crate::over::sorted;
 use kid_sorting::{Signature, SortFault, sort_of, sort_over};
 use kid_term::{Binder, BoxedTerm, Def, Head, LogicOp, NumberOp, Op, Term, Terms};
 use kid_value::{Names, Sort, Text};
 use std::alloc::Global;
 use std::process::Abort;
-
-fn push(terms: &mut Terms, term: Result<Term, SortFault>) -> Result<(), SortFault> {
-    Ok(terms.push(term?)?)
-}
-
-fn one(alloc: Global, head: Head, a: Result<Term, SortFault>) -> Result<Term, SortFault> {
-    let mut args = Terms::new(alloc);
-    push(&mut args, a)?;
-    Ok(Term::App(head, args))
-}
 
 fn two(
     alloc: Global,
@@ -229,14 +219,6 @@ const BOUNDS: [(NumberOp, &str, i64, i64); 10] = [
 #[test]
 fn bounds_each_operator(rt: HostRuntime) {
     bounds_all(&rt, rt.alloc(), &BOUNDS);
-}
-
-fn negations(alloc: Global, count: u32) -> Result<Term, SortFault> {
-    let mut term = number(1);
-    for _ in 0..count {
-        term = one(alloc, Head::Op(Op::Number(NumberOp::Neg)), Ok(term))?;
-    }
-    Ok(term)
 }
 
 fn has_fault(alloc: Global, count: u32, want: Option<SortFault>) -> bool {

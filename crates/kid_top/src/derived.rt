@@ -1,5 +1,6 @@
 //! The program that a theory and the script give.
 ghost use Rattle.std.specs.Prelude.{◌≡◌, true, IfOk, IsErrOf};
+ghost use Rattle.std.specs.Bool.{OnFalse};
 ghost use Rattle.kid_outer.specs.Causes.{NeverFall, Rose};
 ghost use Rattle.kid_kernel.specs.PlainTheory.{plain_theory};
 ghost use Rattle.kid_theory.specs.IsTheory.{IsTheory};
@@ -9,6 +10,7 @@ ghost use Rattle.kid_prog.specs.ProgramView.{plain_program};
 ghost use Rattle.kid_prog.specs.Rules.{IsRunnable};
 ghost use Rattle.kid_prog.specs.Spelling.{is_spelled_program};
 ghost use Rattle.kid_top.specs.Emitted.{program_for};
+ghost use Rattle.kid_top.specs.Failed.{has_failed};
 ghost use Rattle.kid_top.specs.Outcome.{Comes, Outcomes, loads_or, emitted_or, script_program};
 
 use crate::emit::program_for;
@@ -73,6 +75,7 @@ pub fn script_program<S: Store>(
     ensures spelled { IfOk result (λ p. is_spelled_program (plain_program p) ≡ true) }
     ensures held { S.held store.new ≡ S.held store.old }
     ensures failed { IsErrOf result Stop.Failed → Rose (S.faults store.old script.now) (S.faults store.new script.now) }
+    ensures still { OnFalse (has_failed result) (S.faults store.new ≡ S.faults store.old) }
     ensures later { NeverFall (S.faults store.old) (S.faults store.new) }
     ensures fits { IsErrOf result Stop.Usage → ⊥ }
 {

@@ -1,9 +1,11 @@
 //! The work of a command is done.
 ghost use Rattle.std.specs.Prelude.{◌≡◌, ◌⊎◌, IfErr, IfOk, IsErrOf};
+ghost use Rattle.std.specs.Bool.{OnFalse};
 ghost use Rattle.kid_prog.specs.ProgramView.{plain_program};
 ghost use Rattle.kid_prog.specs.Rules.{IsRunnable};
 ghost use Rattle.kid_run.specs.InputReading.{envs_of, AllFit};
 ghost use Rattle.kid_run.specs.Reporting.{report_of};
+ghost use Rattle.kid_top.specs.Failed.{has_failed, NoneFailed};
 ghost use Rattle.kid_top.specs.WorkView.{plain_work, IsReady};
 ghost use Rattle.kid_top.specs.Finishing.{Finishes, FinishRose, FinishFront, FinishKeeps, FinishWhole, ran_out, report_status};
 ghost use Rattle.kid_top.specs.Saves.{IsLateStop};
@@ -48,6 +50,7 @@ pub fn finish<S: Store, O: Sink>(
     ensures done { IfOk result (λ status. Finishes (plain_work work.now) status (O.written out.old) (O.written out.new) (S.held store.old) (S.held store.new)) }
     ensures late { IfErr result IsLateStop }
     ensures failed { IsErrOf result Stop.Failed → FinishRose (plain_work work.now) (S.faults store.old) (S.faults store.new) (O.faults out.old) (O.faults out.new) }
+    ensures still { OnFalse (has_failed result) (NoneFailed (S.faults store.old) (S.faults store.new) (O.faults out.old) (O.faults out.new)) }
     ensures front { FinishFront (plain_work work.now) (O.written out.old) (O.written out.new) }
     ensures kept { FinishKeeps (plain_work work.now) (S.held store.old) (S.held store.new) }
     ensures whole { FinishWhole (plain_work work.now) (S.faults store.old) (S.faults store.new) (S.held store.old) (S.held store.new) }

@@ -1,6 +1,8 @@
 ghost use Rattle.std.specs.Prelude.{◌≡◌, ◌≢◌, ◌⊎◌, OnOk, IfErr, IsErrOf};
+ghost use Rattle.std.specs.Bool.{OnFalse};
 ghost use Rattle.kid_outer.specs.Causes.{NeverFall, Rose};
 ghost use Rattle.kid_outer.specs.Held.{ChangesOnly};
+ghost use Rattle.kid_top.specs.Failed.{has_failed};
 ghost use Rattle.kid_top.specs.Saves.{SavesOne, SavesBoth, SavesInOrder, NoneRose, SavesFront, IsLateStop};
 
 use crate::stop::Stop;
@@ -14,6 +16,7 @@ fn save<S: Store>(alloc: Global, store: &mut S, name: &str, bytes: &[u8]) -> Res
     ensures failed { IsErrOf result Stop.Failed → Rose (S.faults store.old name.now) (S.faults store.new name.now) }
     ensures whole { (Rose (S.faults store.old name.now) (S.faults store.new name.now) → ⊥) → IfErr result (λ _. S.held store.new ≡ S.held store.old) }
     ensures late { IfErr result IsLateStop }
+    ensures still { OnFalse (has_failed result) (S.faults store.new ≡ S.faults store.old) }
     ensures later { NeverFall (S.faults store.old) (S.faults store.new) }
 {
     match store.save(alloc, name, bytes) {
@@ -38,6 +41,7 @@ pub fn save_both<S: Store>(
     ensures failed { IsErrOf result Stop.Failed → Rose (S.faults store.old derivation.now) (S.faults store.new derivation.now) ⊎ Rose (S.faults store.old program.now) (S.faults store.new program.now) }
     ensures whole { NoneRose derivation.now program.now (S.faults store.old) (S.faults store.new) → SavesFront derivation.now program.now derivation_bytes.now program_bytes.now (S.held store.old) (S.held store.new) }
     ensures late { IfErr result IsLateStop }
+    ensures still { OnFalse (has_failed result) (S.faults store.new ≡ S.faults store.old) }
 {
     save(alloc, store, derivation, derivation_bytes)?;
     save(alloc, store, program, program_bytes)

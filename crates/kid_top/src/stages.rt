@@ -1,5 +1,6 @@
 //! What each file of a command gives. Want of memory and a failure aside, the files that are held decide it.
 ghost use Rattle.std.specs.Prelude.{◌≡◌, IfOk, IsErrOf, option_map};
+ghost use Rattle.std.specs.Bool.{OnFalse};
 ghost use Rattle.kid_outer.specs.Causes.{Rose, NeverFall};
 ghost use Rattle.kid_kernel.specs.PlainTheory.{plain_theory};
 ghost use Rattle.kid_theory.specs.IsTheory.{IsTheory};
@@ -8,6 +9,7 @@ ghost use Rattle.kid_prog.specs.ProgramView.{plain_program};
 ghost use Rattle.kid_prog.specs.Loading.{loading};
 ghost use Rattle.kid_prog.specs.Rules.{IsRunnable};
 ghost use Rattle.kid_run.specs.InputReading.{inputs_reading, envs_of, AllFit};
+ghost use Rattle.kid_top.specs.Failed.{has_failed};
 ghost use Rattle.kid_top.specs.Files.{script_file};
 ghost use Rattle.kid_top.specs.Outcome.{load_stage, stage, theory_or, theory_stage, program_or, program_stage, inputs_or, inputs_stage, Outcomes, Comes};
 
@@ -34,6 +36,7 @@ fn load<S: Store>(
     ensures outcome { Outcomes (S.held store.old) (option_map (λ bytes. bytes.items)) result (λ files. load_stage file (files name.now)) }
     ensures held { S.held store.new ≡ S.held store.old }
     ensures failed { IsErrOf result Stop.Failed → Rose (S.faults store.old name.now) (S.faults store.new name.now) }
+    ensures still { OnFalse (has_failed result) (S.faults store.new ≡ S.faults store.old) }
     ensures later { NeverFall (S.faults store.old) (S.faults store.new) }
     ensures fits { IsErrOf result Stop.Usage → ⊥ }
 {
@@ -71,6 +74,7 @@ pub fn theory_stage<S: Store>(alloc: Global, store: &mut S, name: &str) -> Resul
     ensures theory { IfOk result (λ t. IsTheory (plain_theory t)) }
     ensures held { S.held store.new ≡ S.held store.old }
     ensures failed { IsErrOf result Stop.Failed → Rose (S.faults store.old name.now) (S.faults store.new name.now) }
+    ensures still { OnFalse (has_failed result) (S.faults store.new ≡ S.faults store.old) }
     ensures later { NeverFall (S.faults store.old) (S.faults store.new) }
     ensures fits { IsErrOf result Stop.Usage → ⊥ }
 {
@@ -88,6 +92,7 @@ pub fn script_stage<S: Store>(alloc: Global, store: &mut S, name: &str) -> Resul
     ensures outcome { Outcomes (S.held store.old) (λ u. u) result (λ files. stage 2 script_file (files name.now)) }
     ensures held { S.held store.new ≡ S.held store.old }
     ensures failed { IsErrOf result Stop.Failed → Rose (S.faults store.old name.now) (S.faults store.new name.now) }
+    ensures still { OnFalse (has_failed result) (S.faults store.new ≡ S.faults store.old) }
     ensures later { NeverFall (S.faults store.old) (S.faults store.new) }
     ensures fits { IsErrOf result Stop.Usage → ⊥ }
 {
@@ -126,6 +131,7 @@ pub fn program_stage<S: Store>(alloc: Global, store: &mut S, name: &str) -> Resu
     ensures runnable { IfOk result (λ p. IsRunnable (plain_program p)) }
     ensures held { S.held store.new ≡ S.held store.old }
     ensures failed { IsErrOf result Stop.Failed → Rose (S.faults store.old name.now) (S.faults store.new name.now) }
+    ensures still { OnFalse (has_failed result) (S.faults store.new ≡ S.faults store.old) }
     ensures later { NeverFall (S.faults store.old) (S.faults store.new) }
     ensures fits { IsErrOf result Stop.Usage → ⊥ }
 {
@@ -164,6 +170,7 @@ pub fn inputs_stage<S: Store>(
     ensures fit { IfOk result (λ inputs. AllFit (plain_program program.now).inputs inputs) }
     ensures held { S.held store.new ≡ S.held store.old }
     ensures failed { IsErrOf result Stop.Failed → Rose (S.faults store.old name.now) (S.faults store.new name.now) }
+    ensures still { OnFalse (has_failed result) (S.faults store.new ≡ S.faults store.old) }
     ensures later { NeverFall (S.faults store.old) (S.faults store.new) }
     ensures fits { IsErrOf result Stop.Usage → ⊥ }
 {

@@ -1,11 +1,13 @@
 //! What a command is to do, once its files are read.
 ghost use Rattle.std.specs.Prelude.{◌≡◌, ◌≢◌, [], ◌<◌, ◌^◌, IfOk, IsErrOf};
+ghost use Rattle.std.specs.Bool.{OnFalse};
 ghost use Rattle.kid_outer.specs.Causes.{NeverFall, Rose};
 ghost use Rattle.kid_kernel.specs.PlainTheory.{plain_theory};
 ghost use Rattle.kid_theory.specs.IsTheory.{IsTheory};
 ghost use Rattle.kid_prog.specs.ProgramView.{plain_program};
 ghost use Rattle.kid_prog.specs.Rules.{IsRunnable};
 ghost use Rattle.kid_top.specs.Command.{derive, run, solve};
+ghost use Rattle.kid_top.specs.Failed.{has_failed};
 ghost use Rattle.kid_top.specs.Words.{plain_command, IsUsable};
 ghost use Rattle.kid_top.specs.Outcome.{Outcomes, run_inputs, run_work, solve_theory, solve_work, derive_theory, derive_work, work_of};
 ghost use Rattle.kid_top.specs.WorkView.{plain_work, IsReady, Suits};
@@ -54,6 +56,7 @@ fn run_inputs<'a, S: Store>(
     ensures suits { IfOk result (λ w. Suits (run [] inputs.now fuel) (plain_work w)) }
     ensures held { S.held store.new ≡ S.held store.old }
     ensures failed { IsErrOf result Stop.Failed → Rose (S.faults store.old inputs.now) (S.faults store.new inputs.now) }
+    ensures still { OnFalse (has_failed result) (S.faults store.new ≡ S.faults store.old) }
     ensures later { NeverFall (S.faults store.old) (S.faults store.new) }
     ensures fits { IsErrOf result Stop.Usage → ⊥ }
 {
@@ -78,6 +81,7 @@ fn run_work<'a, S: Store>(
     ensures suits { IfOk result (λ w. Suits (run program.now inputs.now fuel) (plain_work w)) }
     ensures held { S.held store.new ≡ S.held store.old }
     ensures failed { IsErrOf result Stop.Failed → RunRose (S.held store.old) (S.faults store.old) (S.faults store.new) program.now inputs.now }
+    ensures still { OnFalse (has_failed result) (S.faults store.new ≡ S.faults store.old) }
     ensures later { NeverFall (S.faults store.old) (S.faults store.new) }
     ensures fits { IsErrOf result Stop.Usage → ⊥ }
 {
@@ -101,6 +105,7 @@ fn solve_theory<'a, S: Store>(
     ensures suits { IfOk result (λ w. Suits (solve [] script.now inputs.now fuel) (plain_work w)) }
     ensures held { S.held store.new ≡ S.held store.old }
     ensures failed { IsErrOf result Stop.Failed → TheoryRose (S.held store.old) (S.faults store.old) (S.faults store.new) (plain_theory theory.now) script.now inputs.now }
+    ensures still { OnFalse (has_failed result) (S.faults store.new ≡ S.faults store.old) }
     ensures later { NeverFall (S.faults store.old) (S.faults store.new) }
     ensures fits { IsErrOf result Stop.Usage → ⊥ }
 {
@@ -122,6 +127,7 @@ fn solve_work<'a, S: Store>(
     ensures suits { IfOk result (λ w. Suits (solve theory.now script.now inputs.now fuel) (plain_work w)) }
     ensures held { S.held store.new ≡ S.held store.old }
     ensures failed { IsErrOf result Stop.Failed → SolveRose (S.held store.old) (S.faults store.old) (S.faults store.new) theory.now script.now inputs.now }
+    ensures still { OnFalse (has_failed result) (S.faults store.new ≡ S.faults store.old) }
     ensures later { NeverFall (S.faults store.old) (S.faults store.new) }
     ensures fits { IsErrOf result Stop.Usage → ⊥ }
 {
@@ -145,6 +151,7 @@ fn derive_theory<'a, S: Store>(
     ensures suits { IfOk result (λ w. Suits (derive [] script.now derivation.now program.now) (plain_work w)) }
     ensures held { S.held store.new ≡ S.held store.old }
     ensures failed { IsErrOf result Stop.Failed → Rose (S.faults store.old script.now) (S.faults store.new script.now) }
+    ensures still { OnFalse (has_failed result) (S.faults store.new ≡ S.faults store.old) }
     ensures later { NeverFall (S.faults store.old) (S.faults store.new) }
     ensures fits { IsErrOf result Stop.Usage → ⊥ }
 {
@@ -174,6 +181,7 @@ fn derive_work<'a, S: Store>(
     ensures suits { IfOk result (λ w. Suits (derive theory.now script.now derivation.now program.now) (plain_work w)) }
     ensures held { S.held store.new ≡ S.held store.old }
     ensures failed { IsErrOf result Stop.Failed → DeriveRose (S.held store.old) (S.faults store.old) (S.faults store.new) theory.now script.now }
+    ensures still { OnFalse (has_failed result) (S.faults store.new ≡ S.faults store.old) }
     ensures later { NeverFall (S.faults store.old) (S.faults store.new) }
     ensures fits { IsErrOf result Stop.Usage → ⊥ }
 {
@@ -193,6 +201,7 @@ pub fn work_of<'a, S: Store>(
     ensures suits { IfOk result (λ w. Suits (plain_command command.now) (plain_work w)) }
     ensures held { S.held store.new ≡ S.held store.old }
     ensures failed { IsErrOf result Stop.Failed → WorkRose (plain_command command.now) (S.held store.old) (S.faults store.old) (S.faults store.new) }
+    ensures still { OnFalse (has_failed result) (S.faults store.new ≡ S.faults store.old) }
     ensures later { NeverFall (S.faults store.old) (S.faults store.new) }
     ensures fits { IsErrOf result Stop.Usage → ⊥ }
 {

@@ -1,4 +1,4 @@
-use Rattle.std.proofs.Common.{◌≡◌, ◌++◌, ◌+◌, ◌∷◌, [], sym, ◌∙◌, subst, option_map, take, arith}
+use Rattle.std.proofs.Common.{◌≡◌, ◌++◌, ◌+◌, ◌∷◌, [], sym, ◌∙◌, subst, option_map, take}
 use Rattle.kid_outer.specs.Written.{AppendsPrefix}
 use Rattle.kid_prog.specs.ProgramView.{plain_program}
 use Rattle.kid_run.specs.InputReading.{AllFit}
@@ -59,7 +59,7 @@ loop-input-preserved g c =
           c.in_ok-push.ensures.items
           ∙ (λ k. c.loop-input.invariant.reported k ++ c.in_ok-printed.ensures.entry k ∷ [])
           ∙ sym (report-next p c.args.fuel inputs i c.input-item.result c.loop-input-test.true c.input-item.is);
-      later = omega (arith, c.loop-input.invariant.later, c.in_ok-put_lines.ensures.later);
+      still = c.in_ok-put_lines.ensures.still ∙ c.loop-input.invariant.still;
     }
 
 pub returns-clause-front : goal.returns-clause-front

@@ -1,4 +1,4 @@
-use crate::{Forest, PrintFault, ReadFault, Tree, print, read};
+use kid_sexp::{Forest, PrintFault, ReadFault, Tree, print, read};
 use kid_value::Text;
 use std::alloc::{AllocError, Global};
 use std::test::Fail;
