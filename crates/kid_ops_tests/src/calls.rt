@@ -1,5 +1,9 @@
 //! Calls of the operators on values at tables of cases. What an operator may not be asked is told as want of memory, which
 //! no case wants.
+ghost use Rattle.std.specs.Prelude.{◌≡◌};
+ghost use Rattle.kid_value.specs.ValueView.{plain};
+ghost use Rattle.kid_ops.specs.Kinds.{item_count};
+
 use crate::built::{Made, is, value};
 use kid_ops::{logic, map, pair, seq, set, word};
 use kid_value::{Memory, Value, in_limits};
@@ -94,10 +98,21 @@ fn renc(alloc: Global, lo: i64, n: i64, m: &Value) -> Result<Value, Memory> {
     }
 }
 
-fn rdec(alloc: Global, lo: i64, row: &Value) -> Result<Value, Memory> {
+#[tactic(auto, using(kid_value::proofs::RowLemmas::items_row))]
+fn count_items(row: &Value) -> usize
+    ensures { result ≡ item_count (plain row.now) }
+{
     match row {
-        Value::Seq(items) if in_limits(lo) && items.len() <= 4096 => word::rdec(alloc, lo, row),
-        _ => Err(Memory),
+        Value::Seq(items) => items.len(),
+        _ => 0,
+    }
+}
+
+fn rdec(alloc: Global, lo: i64, row: &Value) -> Result<Value, Memory> {
+    if in_limits(lo) && count_items(row) <= 4096 {
+        word::rdec(alloc, lo, row)
+    } else {
+        Err(Memory)
     }
 }
 
@@ -190,7 +205,7 @@ fn at_three(alloc: Global, op: Three, x: Made, y: Made, z: Made) -> Result<Value
 }
 
 /// Each operator gives the last value of its row.
-pub fn one(rt: &impl Abort, alloc: Global, rows: &[(One, Made, Made)]) {
+pub fn each_of_one(rt: &impl Abort, alloc: Global, rows: &[(One, Made, Made)]) {
     for (i, row) in rows.iter().enumerate() {
         let (op, x, want) = *row;
         assert!(rt; is(alloc, at_one(alloc, op, x), want), "at row {i}");
@@ -203,7 +218,7 @@ pub fn gives(alloc: Global, op: Two, x: Made, y: Made, want: Made) -> bool {
 }
 
 /// Each operator gives the last value of its row.
-pub fn two(rt: &impl Abort, alloc: Global, rows: &[(Two, Made, Made, Made)]) {
+pub fn each_of_two(rt: &impl Abort, alloc: Global, rows: &[(Two, Made, Made, Made)]) {
     for (i, row) in rows.iter().enumerate() {
         let (op, x, y, want) = *row;
         assert!(rt; gives(alloc, op, x, y, want), "at row {i}");
@@ -211,7 +226,7 @@ pub fn two(rt: &impl Abort, alloc: Global, rows: &[(Two, Made, Made, Made)]) {
 }
 
 /// Each operator gives the last value of its row.
-pub fn three(rt: &impl Abort, alloc: Global, rows: &[(Three, Made, Made, Made, Made)]) {
+pub fn each_of_three(rt: &impl Abort, alloc: Global, rows: &[(Three, Made, Made, Made, Made)]) {
     for (i, row) in rows.iter().enumerate() {
         let (op, x, y, z, want) = *row;
         assert!(rt; is(alloc, at_three(alloc, op, x, y, z), want), "at row {i}");

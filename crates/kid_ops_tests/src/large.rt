@@ -1,7 +1,7 @@
 //! Values of more parts than anyone would count on. No clause says when memory is wanting, so an operator might tell that it
 //! is from some size on.
 use crate::built::Made;
-use crate::calls::{One, Three, Two, one, three, two};
+use crate::calls::{One, Three, Two, each_of_one, each_of_three, each_of_two};
 use kid_ops::set;
 use kid_value::Memory;
 use std::alloc::Global;
@@ -41,7 +41,7 @@ const OF_ONE: [(One, Made, Made); 12] = [
 
 #[test]
 fn takes_a_large_value(rt: HostRuntime) {
-    one(&rt, rt.alloc(), &OF_ONE);
+    each_of_one(&rt, rt.alloc(), &OF_ONE);
 }
 
 const OF_TWO: [(Two, Made, Made, Made); 19] = [
@@ -163,7 +163,7 @@ const OF_TWO: [(Two, Made, Made, Made); 19] = [
 
 #[test]
 fn takes_two_large_values(rt: HostRuntime) {
-    two(&rt, rt.alloc(), &OF_TWO);
+    each_of_two(&rt, rt.alloc(), &OF_TWO);
 }
 
 const OF_THREE: [(Three, Made, Made, Made, Made); 2] = [
@@ -185,5 +185,5 @@ const OF_THREE: [(Three, Made, Made, Made, Made); 2] = [
 
 #[test]
 fn takes_three_large_values(rt: HostRuntime) {
-    three(&rt, rt.alloc(), &OF_THREE);
+    each_of_three(&rt, rt.alloc(), &OF_THREE);
 }

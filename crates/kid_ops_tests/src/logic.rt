@@ -1,6 +1,6 @@
 //! The operators on truth values, and equality.
 use crate::built::Made;
-use crate::calls::{Two, two};
+use crate::calls::{Two, each_of_two};
 use kid_ops::logic;
 use std::process::Abort;
 
@@ -47,7 +47,7 @@ const CHOICES: [(Two, Made, Made, Made); 4] = [
 
 #[test]
 fn chooses(rt: HostRuntime) {
-    two(&rt, rt.alloc(), &CHOICES);
+    each_of_two(&rt, rt.alloc(), &CHOICES);
 }
 
 const EQUALITIES: [(Two, Made, Made, Made); 14] = [
@@ -104,5 +104,5 @@ const EQUALITIES: [(Two, Made, Made, Made); 14] = [
 
 #[test]
 fn compares(rt: HostRuntime) {
-    two(&rt, rt.alloc(), &EQUALITIES);
+    each_of_two(&rt, rt.alloc(), &EQUALITIES);
 }

@@ -1,6 +1,6 @@
 //! The operators on maps.
 use crate::built::{Made, is};
-use crate::calls::{One, Three, Two, one, three, two};
+use crate::calls::{One, Three, Two, each_of_one, each_of_three, each_of_two};
 use kid_ops::map;
 
 const NO_KEYS: Made = Made::Map(&[]);
@@ -33,7 +33,7 @@ const KEYS_AND_VALUES: [(One, Made, Made); 9] = [
 
 #[test]
 fn lists_keys_and_values(rt: HostRuntime) {
-    one(&rt, rt.alloc(), &KEYS_AND_VALUES);
+    each_of_one(&rt, rt.alloc(), &KEYS_AND_VALUES);
 }
 
 const NINE: Made = Made::Int(9);
@@ -57,7 +57,7 @@ const LOOKED_UP: [(Three, Made, Made, Made, Made); 8] = [
 
 #[test]
 fn looks_up(rt: HostRuntime) {
-    three(&rt, rt.alloc(), &LOOKED_UP);
+    each_of_three(&rt, rt.alloc(), &LOOKED_UP);
 }
 
 const PUT: [(Three, Made, Made, Made, Made); 7] = [
@@ -102,7 +102,7 @@ const PUT: [(Three, Made, Made, Made, Made); 7] = [
 
 #[test]
 fn puts_a_value(rt: HostRuntime) {
-    three(&rt, rt.alloc(), &PUT);
+    each_of_three(&rt, rt.alloc(), &PUT);
 }
 
 const DROPPED_AND_FILLED: [(Two, Made, Made, Made); 14] = [
@@ -134,7 +134,7 @@ const DROPPED_AND_FILLED: [(Two, Made, Made, Made); 14] = [
 
 #[test]
 fn drops_and_fills(rt: HostRuntime) {
-    two(&rt, rt.alloc(), &DROPPED_AND_FILLED);
+    each_of_two(&rt, rt.alloc(), &DROPPED_AND_FILLED);
 }
 
 const SUBMAPS: [(Two, Made, Made, Made); 14] = [
@@ -166,7 +166,7 @@ const SUBMAPS: [(Two, Made, Made, Made); 14] = [
 
 #[test]
 fn compares_maps(rt: HostRuntime) {
-    two(&rt, rt.alloc(), &SUBMAPS);
+    each_of_two(&rt, rt.alloc(), &SUBMAPS);
 }
 
 const WIDE: Made = Made::Sets(&[(1, &[4, 5])]);
@@ -216,7 +216,7 @@ const FITTED: [(Two, Made, Made, Made); 16] = [
 
 #[test]
 fn fits(rt: HostRuntime) {
-    two(&rt, rt.alloc(), &FITTED);
+    each_of_two(&rt, rt.alloc(), &FITTED);
 }
 
 const WIDE_AND_FAR: Made = Made::Sets(&[(1, &[4, 5]), (3, &[6, 7])]);
@@ -253,5 +253,5 @@ const NARROWED: [(Two, Made, Made, Made); 12] = [
 
 #[test]
 fn narrows(rt: HostRuntime) {
-    two(&rt, rt.alloc(), &NARROWED);
+    each_of_two(&rt, rt.alloc(), &NARROWED);
 }

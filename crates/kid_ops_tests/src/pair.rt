@@ -1,6 +1,6 @@
 //! The operators on pairs.
 use crate::built::Made;
-use crate::calls::{One, Two, one, two};
+use crate::calls::{One, Two, each_of_one, each_of_two};
 
 const PAIRS: [(Two, Made, Made, Made); 2] = [
     (
@@ -19,7 +19,7 @@ const PAIRS: [(Two, Made, Made, Made); 2] = [
 
 #[test]
 fn makes_pairs(rt: HostRuntime) {
-    two(&rt, rt.alloc(), &PAIRS);
+    each_of_two(&rt, rt.alloc(), &PAIRS);
 }
 
 const PARTS: [(One, Made, Made); 8] = [
@@ -35,5 +35,5 @@ const PARTS: [(One, Made, Made); 8] = [
 
 #[test]
 fn takes_pairs_apart(rt: HostRuntime) {
-    one(&rt, rt.alloc(), &PARTS);
+    each_of_one(&rt, rt.alloc(), &PARTS);
 }

@@ -1,6 +1,6 @@
 //! The operators on rows.
 use crate::built::Made;
-use crate::calls::{One, Two, one, two};
+use crate::calls::{One, Two, each_of_one, each_of_two};
 
 const BOTH: Made = Made::Map(&[(1, 5), (3, 6)]);
 
@@ -42,10 +42,10 @@ const ENCODED: [(One, Made, Made); 13] = [
 
 #[test]
 fn packs_rows(rt: HostRuntime) {
-    one(&rt, rt.alloc(), &ENCODED);
+    each_of_one(&rt, rt.alloc(), &ENCODED);
 }
 
-const DECODED: [(One, Made, Made); 9] = [
+const DECODED: [(One, Made, Made); 10] = [
     (One::Rdec(1), PACKED, BOTH),
     (One::Rdec(1), NO_ITEMS, Made::Map(&[])),
     (One::Rdec(1), Made::Row(&[&[], &[]]), Made::Map(&[])),
@@ -67,11 +67,12 @@ const DECODED: [(One, Made, Made); 9] = [
     ),
     (One::Rdec(1), Made::Row(&[&[7, 8]]), Made::Map(&[(1, 7)])),
     (One::Rdec(1), Made::Seq(&[7, 8]), Made::Map(&[])),
+    (One::Rdec(1), Made::Int(7), Made::Bool(false)),
 ];
 
 #[test]
 fn unpacks_rows(rt: HostRuntime) {
-    one(&rt, rt.alloc(), &DECODED);
+    each_of_one(&rt, rt.alloc(), &DECODED);
 }
 
 const NINE: Made = Made::Int(9);
@@ -91,7 +92,7 @@ const FOUND: [(Two, Made, Made, Made); 10] = [
 
 #[test]
 fn looks_into_rows(rt: HostRuntime) {
-    two(&rt, rt.alloc(), &FOUND);
+    each_of_two(&rt, rt.alloc(), &FOUND);
 }
 
 const FULL: Made = Made::Row(&[&[5], &[9], &[6]]);
@@ -117,7 +118,7 @@ const PUT: [(Two, Made, Made, Made); 11] = [
 
 #[test]
 fn puts_into_rows(rt: HostRuntime) {
-    two(&rt, rt.alloc(), &PUT);
+    each_of_two(&rt, rt.alloc(), &PUT);
 }
 
 const DROPPED: [(One, Made, Made); 9] = [
@@ -134,5 +135,5 @@ const DROPPED: [(One, Made, Made); 9] = [
 
 #[test]
 fn drops_from_rows(rt: HostRuntime) {
-    one(&rt, rt.alloc(), &DROPPED);
+    each_of_one(&rt, rt.alloc(), &DROPPED);
 }

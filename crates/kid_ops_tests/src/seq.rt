@@ -1,6 +1,6 @@
 //! The operators on sequences.
 use crate::built::Made;
-use crate::calls::{One, Two, one, two};
+use crate::calls::{One, Two, each_of_one, each_of_two};
 
 const SOME: Made = Made::Seq(&[4, 2, 4]);
 
@@ -35,7 +35,7 @@ const READ: [(One, Made, Made); 22] = [
 
 #[test]
 fn reads_sequences(rt: HostRuntime) {
-    one(&rt, rt.alloc(), &READ);
+    each_of_one(&rt, rt.alloc(), &READ);
 }
 
 const LAST: Made = Made::Seq(&[4, 2, 7]);
@@ -59,7 +59,7 @@ const PLACES: [(Two, Made, Made, Made); 12] = [
 
 #[test]
 fn finds_items(rt: HostRuntime) {
-    two(&rt, rt.alloc(), &PLACES);
+    each_of_two(&rt, rt.alloc(), &PLACES);
 }
 
 const LONGER: [(Two, Made, Made, Made); 3] = [
@@ -70,7 +70,7 @@ const LONGER: [(Two, Made, Made, Made); 3] = [
 
 #[test]
 fn adds_an_item(rt: HostRuntime) {
-    two(&rt, rt.alloc(), &LONGER);
+    each_of_two(&rt, rt.alloc(), &LONGER);
 }
 
 const FRONTS: [(Two, Made, Made, Made); 13] = [
@@ -101,5 +101,5 @@ const FRONTS: [(Two, Made, Made, Made); 13] = [
 
 #[test]
 fn compares_fronts(rt: HostRuntime) {
-    two(&rt, rt.alloc(), &FRONTS);
+    each_of_two(&rt, rt.alloc(), &FRONTS);
 }

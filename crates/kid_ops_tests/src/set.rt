@@ -1,6 +1,6 @@
 //! The operators on sets.
 use crate::built::{Made, is};
-use crate::calls::{One, Two, gives, one, two};
+use crate::calls::{One, Two, each_of_one, each_of_two, gives};
 use kid_ops::set;
 use std::alloc::Global;
 use std::process::Abort;
@@ -68,7 +68,7 @@ const NO_SETS: [(Two, Made, Made, Made); 9] = [
 
 #[test]
 fn asks_for_sets(rt: HostRuntime) {
-    two(&rt, rt.alloc(), &NO_SETS);
+    each_of_two(&rt, rt.alloc(), &NO_SETS);
 }
 
 const LOOKED_UP: [(Two, Made, Made, Made); 17] = [
@@ -103,7 +103,7 @@ const LOOKED_UP: [(Two, Made, Made, Made); 17] = [
 
 #[test]
 fn looks_into_sets(rt: HostRuntime) {
-    two(&rt, rt.alloc(), &LOOKED_UP);
+    each_of_two(&rt, rt.alloc(), &LOOKED_UP);
 }
 
 const LEAST: [(Two, Made, Made, Made); 4] = [
@@ -115,7 +115,7 @@ const LEAST: [(Two, Made, Made, Made); 4] = [
 
 #[test]
 fn finds_the_least_member(rt: HostRuntime) {
-    two(&rt, rt.alloc(), &LEAST);
+    each_of_two(&rt, rt.alloc(), &LEAST);
 }
 
 const MADE: [(One, Made, Made); 8] = [
@@ -131,7 +131,7 @@ const MADE: [(One, Made, Made); 8] = [
 
 #[test]
 fn makes_and_counts_sets(rt: HostRuntime) {
-    one(&rt, rt.alloc(), &MADE);
+    each_of_one(&rt, rt.alloc(), &MADE);
 }
 
 const FEW: Made = Made::Set(&[1, 3]);
@@ -156,7 +156,7 @@ const CHANGED: [(Two, Made, Made, Made); 15] = [
 
 #[test]
 fn changes_sets(rt: HostRuntime) {
-    two(&rt, rt.alloc(), &CHANGED);
+    each_of_two(&rt, rt.alloc(), &CHANGED);
 }
 
 const MOST: i64 = 9223372036854775807;

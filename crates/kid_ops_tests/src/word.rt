@@ -1,5 +1,5 @@
 //! The operators on words, whose bits count from 0 to 61.
-use crate::built::{Made, is};
+use crate::built::{Made, is, value};
 use kid_ops::word;
 use kid_value::{Memory, Value, in_limits};
 use std::alloc::Global;
@@ -104,7 +104,7 @@ fn looks_into_words(rt: HostRuntime) {
 }
 
 // lo, d, r, and lo + i for the lowest bit i of r, or d
-const LEAST: [(i64, i64, i64, i64); 12] = [
+const LOWEST: [(i64, i64, i64, i64); 12] = [
     (-3, 9, 3, -3),
     (1, -9, 4, 3),
     (1, -9, 0, -9),
@@ -136,11 +136,56 @@ fn finds_all(rt: &impl Abort, rows: &[(i64, i64, i64, i64)]) {
 
 #[test]
 fn finds_the_least_bit(rt: HostRuntime) {
-    finds_all(&rt, &LEAST);
+    finds_all(&rt, &LOWEST);
+}
+
+// lo, k, s, and the word for the members of s from lo to lo + k - 1
+const ENCODED: [(i64, i64, Made, i64); 14] = [
+    (1, 40, Made::Set(&[3]), 4),
+    (1, 3, Made::Set(&[1, 3, 9]), 5),
+    (1, 3, Made::Set(&[0, 1, 4]), 1),
+    (1, 1, Made::Set(&[1, 2]), 1),
+    (1, 0, Made::Set(&[1]), 0),
+    (1, -1, Made::Set(&[1]), 0),
+    (1, 3, Made::Set(&[]), 0),
+    (1, 62, Made::Set(&[62]), BIT_61),
+    (1, 62, Made::Set(&[63]), 0),
+    (1, 61, Made::Set(&[61, 62]), BIT_61 / 2),
+    (1, 62, Made::SetOf(0, 70), ALL),
+    (-2, 3, Made::Set(&[-2, -1, 0]), 7),
+    (BIT_62, 2, Made::Set(&[BIT_62 + 1]), 2),
+    (-BIT_62, 2, Made::Set(&[-BIT_62]), 1),
+];
+
+#[tactic(auto, using(crate::proofs::WordLemmas::small_code))]
+fn code(lo: &i64, k: &i64, s: &Value) -> Option<i64> {
+    match s {
+        Value::Set(_) if in_limits(*lo) && *k <= 62 => Some(word::wenc(*lo, *k, s)),
+        _ => None,
+    }
+}
+
+fn word_for(alloc: Global, lo: i64, k: i64, s: Made) -> Option<i64> {
+    match value(alloc, s) {
+        Ok(s) => code(&lo, &k, &s),
+        Err(_) => None,
+    }
+}
+
+fn packs_all(rt: &impl Abort, alloc: Global, rows: &[(i64, i64, Made, i64)]) {
+    for (i, row) in rows.iter().enumerate() {
+        let (lo, k, s, want) = *row;
+        assert!(rt; word_for(alloc, lo, k, s) == Some(want), "at row {i}");
+    }
+}
+
+#[test]
+fn packs_words(rt: HostRuntime) {
+    packs_all(&rt, rt.alloc(), &ENCODED);
 }
 
 // lo, k, r, and the set of lo + i for each bit i of r below k
-const DECODED: [(i64, i64, i64, Made); 14] = [
+const UNPACKED: [(i64, i64, i64, Made); 14] = [
     (1, 4, 5, Made::Set(&[1, 3])),
     (1, 3, 5, Made::Set(&[1, 3])),
     (1, 2, 5, Made::Set(&[1])),
@@ -177,5 +222,5 @@ fn decodes_all(rt: &impl Abort, alloc: Global, rows: &[(i64, i64, i64, Made)]) {
 
 #[test]
 fn unpacks_words(rt: HostRuntime) {
-    decodes_all(&rt, rt.alloc(), &DECODED);
+    decodes_all(&rt, rt.alloc(), &UNPACKED);
 }
