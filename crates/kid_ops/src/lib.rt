@@ -8,6 +8,4 @@ pub mod number;
 pub mod pair;
 pub mod seq;
 pub mod set;
-#[cfg(test)]
-mod tests;
 pub mod word;
