@@ -175,6 +175,3 @@ impl Terms {
         self.items.as_slice()
     }
 }
-
-#[cfg(test)]
-mod tests;

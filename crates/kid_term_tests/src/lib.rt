@@ -1,0 +1,19 @@
+//! The tests of kid_term. A crate with tests is proved once with them and once without, so these stand in a crate of their own.
+#![tactic(auto)]
+
+#[cfg(test)]
+mod definitions;
+#[cfg(test)]
+mod equal;
+#[cfg(test)]
+mod large;
+#[cfg(test)]
+mod names;
+#[cfg(test)]
+mod notation;
+#[cfg(test)]
+mod places;
+#[cfg(test)]
+mod renames;
+#[cfg(test)]
+mod sizes;
