@@ -15,8 +15,6 @@ mod scope;
 mod seq;
 mod set;
 mod terms;
-#[cfg(test)]
-mod tests;
 mod word;
 
 pub use env::Env;
