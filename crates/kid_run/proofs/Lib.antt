@@ -9,4 +9,3 @@ pub mod Accounts
 pub mod Calls
 pub mod Fronts
 pub mod Runs
-pub mod Samples

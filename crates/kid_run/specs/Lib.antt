@@ -8,5 +8,4 @@ pub mod Scope
 pub mod FrameView
 pub mod MoveView
 pub mod Account
-pub mod Sample
 pub mod Failed
