@@ -6,6 +6,8 @@ mod built;
 #[cfg(test)]
 mod calls;
 #[cfg(test)]
+mod large;
+#[cfg(test)]
 mod operators;
 #[cfg(test)]
 mod over;
