@@ -4,6 +4,7 @@ pub mod Lengths
 pub mod Numbers
 pub mod Printed
 pub mod Puts
+pub mod ShapeTold
 pub mod SortBack
 pub mod SortTold
 pub mod Taken

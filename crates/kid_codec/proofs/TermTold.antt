@@ -37,7 +37,7 @@ terms_row (u ∷ us) = ap (λ (l : List PlainTerm). u ∷ l) (terms_row us)
 named : (w x : List ℕ) → (if is_name w then Some w else None) ≡ Some x → (w ≡ x) × (is_name x ≡ true)
 named w x p = let r = if_some (is_name w) (Some w) x p in let e = same_some w x r.1 in (e, ap is_name (sym e) ∙ r.0)
 
-name_told : (t : Plain) (x : List ℕ) → spelled_name t ≡ Some x → (t ≡ atom x) × (is_name x ≡ true)
+pub name_told : (t : Plain) (x : List ℕ) → spelled_name t ≡ Some x → (t ≡ atom x) × (is_name x ≡ true)
 name_told (atom w) x p = let r = named w x p in (ap atom r.0, r.1)
 name_told (list ts) x p = cc
 

@@ -19,11 +19,12 @@ use Rattle.kid_codec.specs.SortSpelling.{headed, sort_spelling, is_spelled_sort,
 use Rattle.kid_codec.specs.TermSpelling.{term_spelling, is_spelled_term, casts_are_allowed, spelled_name, spelled_term}
 use Rattle.kid_codec.proofs.Found.{both_some, bind_some}
 use Rattle.kid_codec.proofs.SortTold.{sort_whole}
-use Rattle.kid_codec.proofs.TermTold.{term_told}
+use Rattle.kid_codec.proofs.ShapeTold.{form_told, quadruple_told}
+use Rattle.kid_codec.proofs.TermTold.{name_told, term_told}
 use Rattle.kid_prog.specs.Forms.{names_list, definition, def_parts, is_formed_definition, def_form}
 use Rattle.kid_prog.specs.Spelling.{names_spelling, definition_spelling, is_spelled_name, is_spelled_definition}
 use Rattle.kid_prog.proofs.Casts.{sorted_casts}
-use Rattle.kid_prog.proofs.FormTold.{form_told, quadruple_told, name_told, names_list_told}
+use Rattle.kid_prog.proofs.FormTold.{names_list_told}
 use Rattle.kid_prog.proofs.Stages.{judged_ok}
 
 -- what stands behind the word of a definition

@@ -2,7 +2,6 @@
 use Rattle.std.proofs.Common.{◌≡◌, ℕ, true, List, [], ◌∷◌, Some, refl, sym, ap, ◌∙◌, subst}
 use Rattle.std.specs.Prelude.{option_map}
 use Rattle.std.specs.List.{list_all}
-use Rattle.std.specs.Str.{bytes_eq}
 use Rattle.kid_sexp.specs.Plain.{Plain, Plains, atom, list, none, more, one}
 use Rattle.kid_value.specs.PlainSort.{PlainSort}
 use Rattle.kid_value.specs.SortLimits.{is_allowed}
@@ -11,52 +10,15 @@ use Rattle.kid_term.specs.Names.{Names}
 use Rattle.kid_term.specs.PlainTerm.{PlainTerm, term_row}
 use Rattle.kid_sorting.specs.Declaring.{are_allowed}
 use Rattle.kid_codec.specs.Name.{is_name}
-use Rattle.kid_codec.specs.Shape.{form, single, couple, quadruple}
+use Rattle.kid_codec.specs.Shape.{form, couple}
 use Rattle.kid_codec.specs.SortSpelling.{headed, is_spelled_sort, spelled_sort}
 use Rattle.kid_codec.specs.TermSpelling.{is_spelled_term, are_spelled_terms, casts_are_allowed, all_casts_are_allowed, spelled_name, spelled_term, spelled_terms}
-use Rattle.kid_codec.proofs.Found.{same_some, if_some, mapped, both_some, bind_some}
-use Rattle.kid_codec.proofs.Numbers.{bytes_eq-true}
+use Rattle.kid_codec.proofs.Found.{same_some, mapped, both_some, bind_some}
 use Rattle.kid_codec.proofs.SortTold.{sort_whole}
-use Rattle.kid_codec.proofs.TermTold.{TermsTold, term_told}
+use Rattle.kid_codec.proofs.ShapeTold.{form_told, couple_told}
+use Rattle.kid_codec.proofs.TermTold.{TermsTold, name_told, term_told}
 use Rattle.kid_prog.specs.Forms.{named, named_pair, named_list, spelled_names, names_list, named_form}
 use Rattle.kid_prog.specs.Spelling.{named_spelling, names_spelling, is_spelled_name}
-
-pub form_told : (w : List ℕ) (t : Plain) (ts : Plains) → form w t ≡ Some ts → t ≡ headed w ts
-form_told w (atom v) ts p = cc
-form_told w (list none) ts p = cc
-form_told w (list (more (list us) rest)) ts p = cc
-form_told w (list (more (atom v) rest)) ts p =
-    let r = if_some (bytes_eq v w) (Some rest) ts p in
-    let q = bytes_eq-true v w r.0 in
-    let e = same_some rest ts r.1 in
-    λ i. list (more (atom (q i)) (e i))
-
-pub single_told : (ts : Plains) (t : Plain) → single ts ≡ Some t → ts ≡ one t
-single_told none t p = cc
-single_told (more u none) t p = ap one (same_some u t p)
-single_told (more u (more v vs)) t p = cc
-
-pub couple_told : (ts : Plains) (p : Plain × Plain) → couple ts ≡ Some p → ts ≡ more p.0 (one p.1)
-couple_told none p e = cc
-couple_told (more t none) p e = cc
-couple_told (more t (more u none)) p e = ap (λ (q : Plain × Plain). more q.0 (one q.1)) (same_some (t, u) p e)
-couple_told (more t (more u (more v vs))) p e = cc
-
-pub quadruple_told : (ts : Plains) (q : Plain × Plain × Plain × Plain) → quadruple ts ≡ Some q → ts ≡ more q.0 (more q.1 (more q.2 (one q.3)))
-quadruple_told none q e = cc
-quadruple_told (more t none) q e = cc
-quadruple_told (more t (more u none)) q e = cc
-quadruple_told (more t (more u (more v none))) q e = cc
-quadruple_told (more t (more u (more v (more w none)))) q e =
-    ap (λ (p : Plain × Plain × Plain × Plain). more p.0 (more p.1 (more p.2 (one p.3)))) (same_some (t, u, v, w) q e)
-quadruple_told (more t (more u (more v (more w (more x xs))))) q e = cc
-
-pub name_told : (t : Plain) (x : List ℕ) → spelled_name t ≡ Some x → (t ≡ atom x) × (is_name x ≡ true)
-name_told (atom w) x p =
-    let r = if_some (is_name w) (Some w) x p in
-    let e = same_some w x r.1 in
-    (ap atom e, ap is_name (sym e) ∙ r.0)
-name_told (list ts) x p = cc
 
 pub terms_told : (ts : Plains) (us : List PlainTerm) → spelled_terms ts ≡ Some us → all_casts_are_allowed (term_row us) ≡ true → TermsTold ts us
 terms_told none us p h = subst (TermsTold none) (same_some [] us p) (record { trees = refl; spelled = refl })

@@ -18,6 +18,7 @@ use Rattle.kid_codec.specs.Shape.{form, single}
 use Rattle.kid_codec.specs.SortSpelling.{number_tree, headed, spelled_number}
 use Rattle.kid_codec.specs.TermSpelling.{term_spelling, is_spelled_term, spelled_term}
 use Rattle.kid_codec.proofs.Found.{both_some, bind_some, number_from}
+use Rattle.kid_codec.proofs.ShapeTold.{form_told, single_told}
 use Rattle.kid_codec.proofs.TermTold.{term_told}
 use Rattle.kid_prog.specs.PlainStmt.{PlainStmts}
 use Rattle.kid_prog.specs.Rules.{obey}
@@ -26,7 +27,7 @@ use Rattle.kid_prog.specs.StmtShape.{spelled_stmts}
 use Rattle.kid_prog.specs.Forms.{names_list, version_of, version_form, named_form, is_undeclared, are_undeclared, input_form, require_form, output_form, first_names, if_proper, known_parameters, setting, main_sorted, main_form, search_parts, search_sorted, search_form}
 use Rattle.kid_prog.specs.declared.fault.LoadCode.TheVariants as code
 use Rattle.kid_prog.proofs.Casts.{sorted_casts, truth_sorted}
-use Rattle.kid_prog.proofs.FormTold.{form_told, single_told, named_told, names_list_told}
+use Rattle.kid_prog.proofs.FormTold.{named_told, names_list_told}
 use Rattle.kid_prog.proofs.Obeyed.{obey_casts}
 use Rattle.kid_prog.proofs.Stages.{judged_ok}
 use Rattle.kid_prog.proofs.StmtTold.{stmts_told}

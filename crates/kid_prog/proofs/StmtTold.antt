@@ -12,11 +12,12 @@ use Rattle.kid_codec.specs.Shape.{single, couple}
 use Rattle.kid_codec.specs.TermSpelling.{is_spelled_term, casts_are_allowed, spelled_name, spelled_term, spelled_terms}
 use Rattle.kid_codec.proofs.Found.{same_some, if_some, if_else, mapped, both_some, bind_some}
 use Rattle.kid_codec.proofs.Numbers.{bytes_eq-true}
-use Rattle.kid_codec.proofs.TermTold.{term_told}
+use Rattle.kid_codec.proofs.ShapeTold.{single_told, couple_told}
+use Rattle.kid_codec.proofs.TermTold.{name_told, term_told}
 use Rattle.kid_prog.specs.PlainStmt.{PlainStmt, assign, when, each, emit, call, PlainStmts, no_stmt, stmt}
 use Rattle.kid_prog.specs.Spelling.{stmt_spelling, stmt_spellings, is_spelled_stmt, are_spelled_stmts}
 use Rattle.kid_prog.specs.StmtShape.{spelled_let, spelled_emit, spelled_call, stmt_of_word, spelled_stmt, spelled_stmts, spelled_if, spelled_for}
-use Rattle.kid_prog.proofs.FormTold.{single_told, couple_told, name_told, terms_told}
+use Rattle.kid_prog.proofs.FormTold.{terms_told}
 use Rattle.kid_prog.proofs.Obeyed.{stmt_casts, stmts_cast}
 
 pub record StmtTold (t : Plain) (s : PlainStmt) : Type 0 where

@@ -1,13 +1,11 @@
 -- A program as a forest.
-use Rattle.std.specs.Prelude.{ℕ, pos, Bool, true, ◌&&◌, List, [], ◌∷◌, codes}
+use Rattle.std.specs.Prelude.{pos, Bool, true, ◌&&◌, codes}
 use Rattle.std.specs.List.{list_all}
-use Rattle.kid_sexp.specs.Plain.{Plain, Plains, atom, list, none, more, one, join}
-use Rattle.kid_value.specs.PlainSort.{PlainSort}
+use Rattle.kid_sexp.specs.Plain.{Plain, Plains, atom, list, none, more, one}
 use Rattle.kid_term.specs.PlainTerm.{PlainTerm, term_row}
-use Rattle.kid_term.specs.Names.{Names, PlainDef}
 use Rattle.kid_codec.specs.Name.{is_name}
-use Rattle.kid_codec.specs.SortSpelling.{number_tree, headed, sort_spelling}
-pub use Rattle.kid_codec.specs.DeclaredSpelling.{is_spelled_name, is_spelled_definition}
+use Rattle.kid_codec.specs.SortSpelling.{number_tree, headed}
+pub use Rattle.kid_codec.specs.DeclaredSpelling.{named_spelling, names_spelling, definition_spelling, definitions_before, inputs_before, is_spelled_name, is_spelled_definition}
 use Rattle.kid_codec.specs.TermSpelling.{term_spelling, term_spellings, is_spelled_term, are_spelled_terms}
 use Rattle.kid_prog.specs.PlainStmt.{PlainStmt, assign, when, each, emit, call, PlainStmts, no_stmt, stmt}
 use Rattle.kid_prog.specs.PlainProgram.{PlainProgram}
@@ -23,27 +21,6 @@ abbrev mutual
   pub stmt_spellings : PlainStmts → Plains
   stmt_spellings no_stmt = none
   stmt_spellings (stmt s ss) = more (stmt_spelling s) (stmt_spellings ss)
-
--- a name before its sort
-abbrev pub named_spelling : List ℕ × PlainSort → Plains
-named_spelling n = more (atom n.0) (one (sort_spelling n.1))
-
-abbrev pub names_spelling : Names → Plains
-names_spelling [] = none
-names_spelling (n ∷ ns) = more (list (named_spelling n)) (names_spelling ns)
-
-abbrev pub definition_spelling : PlainDef → Plain
-definition_spelling d =
-    headed (codes "def") (more (atom d.name) (more (list (names_spelling d.parameters)) (more (sort_spelling d.sort) (one (term_spelling d.body)))))
-
--- forms, and then those after them
-abbrev pub definitions_before : List PlainDef → Plains → Plains
-definitions_before [] rest = rest
-definitions_before (d ∷ ds) rest = more (definition_spelling d) (definitions_before ds rest)
-
-abbrev pub inputs_before : Names → Plains → Plains
-inputs_before [] rest = rest
-inputs_before (n ∷ ns) rest = more (headed (codes "input") (named_spelling n)) (inputs_before ns rest)
 
 -- the forms after the inputs
 abbrev pub last_forms : PlainProgram → Plains

@@ -1,12 +1,15 @@
 pub mod CommonSorts
 pub mod DepthLemmas
 pub mod FormTold
+pub mod FormTrees
 pub mod Laws
 pub mod NameRows
 pub mod Passed
 pub mod ShapeTold
+pub mod SpellingTold
 pub mod StageLemmas
 pub mod Stages
 pub mod TakenLemmas
 pub mod TheoryTold
 pub mod TermRows
+pub mod TreeTold

@@ -32,6 +32,10 @@ pub ended : (k : ℕ) (p q : PlainTheory) (ts : Plains) → at_end k p ts ≡ Ok
 ended k p q none e = cc
 ended k p q (more t ts) e = absurd (none_further (nat_le (suc k) 1024) (suc k) q e)
 
+pub ended_none : (k : ℕ) (p q : PlainTheory) (ts : Plains) → at_end k p ts ≡ Ok q → ts ≡ none
+ended_none k p q none e = refl
+ended_none k p q (more t ts) e = absurd (none_further (nat_le (suc k) 1024) (suc k) q e)
+
 forest_of : (b : Bool) (r : Result Plains Fault) (t : PlainTheory) → (if b then from_forest r else refused 0 code.Large) ≡ Ok t → (ts : Plains) × (r ≡ Ok ts) × (theory_from ts ≡ Ok t)
 forest_of true (Ok ts) t e = (ts, refl, e)
 forest_of true (Err fault) t e = cc

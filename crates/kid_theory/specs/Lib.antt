@@ -6,4 +6,5 @@ pub mod IsTheory
 pub mod Judged
 pub mod Reading
 pub mod Shapes
+pub mod Spelling
 pub mod Taken

@@ -4,10 +4,12 @@
 mod ahead;
 mod fault;
 mod forms;
+mod law;
 mod law_form;
 mod names;
 mod reader;
 mod shape;
 
 pub use fault::{TheoryCode, TheoryFault};
-pub use reader::{read_theories, read_theory};
+pub use law::{read_theories, theories_are_spelled};
+pub use reader::read_theory;

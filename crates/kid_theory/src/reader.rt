@@ -11,8 +11,9 @@ ghost use Rattle.kid_kernel.specs.PlainTheory.{plain_theory};
 ghost use Rattle.kid_theory.specs.Answers.{Judges, Reads, fault_at, placed, located};
 ghost use Rattle.kid_theory.specs.Forms.{condition_form as condition_form_of, output_form as output_form_of, axiom_form as axiom_form_of, definition_form as definition_form_of};
 ghost use Rattle.kid_theory.specs.FrontView.{plain_front};
-ghost use Rattle.kid_theory.specs.IsTheory.{IsTheory, ReadTheories};
+ghost use Rattle.kid_theory.specs.IsTheory.{IsTheory};
 ghost use Rattle.kid_theory.specs.Reading.{theory_with, with_axiom, front_of, at_end, after_output, after_condition, after_inputs, after_definitions, theory_from, theory_reading};
+ghost use Rattle.kid_theory.specs.Spelling.{IsSpelledBy};
 
 use crate::fault::{TheoryCode, TheoryFault};
 use crate::forms::{
@@ -417,11 +418,7 @@ fn read_file(alloc: Global, bytes: &[u8]) -> Result<Theory, TheoryFault>
 pub fn read_theory(alloc: Global, bytes: &[u8]) -> Result<Theory, TheoryFault>
     ensures reading { Reads plain_theory result (theory_reading bytes.now) }
     ensures theory { IfOk result (λ t. IsTheory (plain_theory t)) }
+    ensures spelled { IfOk result (λ t. IsSpelledBy bytes.now (plain_theory t)) }
 {
     read_file(alloc, bytes)
 }
-
-/// What holds of each theory that is read, as the contract of a function that does nothing.
-pub fn read_theories()
-    ensures { ReadTheories }
-{}

@@ -1,0 +1,13 @@
+//! Laws of theory files, each the contract of a function that does nothing.
+ghost use Rattle.kid_theory.specs.IsTheory.{ReadTheories};
+ghost use Rattle.kid_theory.specs.Spelling.{TheoriesAreSpelled};
+
+/// What is read is a theory.
+pub fn read_theories()
+    ensures { ReadTheories }
+{}
+
+/// A theory that is read is the one that the file's forms spell.
+pub fn theories_are_spelled()
+    ensures { TheoriesAreSpelled }
+{}
