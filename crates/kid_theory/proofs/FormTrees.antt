@@ -1,5 +1,5 @@
 -- A form of a theory that was not refused is the tree of what it holds.
-use Rattle.std.proofs.Common.{◌≡◌, ℕ, true, List, [], length, Ok, ap, ◌∙◌}
+use Rattle.std.proofs.Common.{◌≡◌, ℕ, true, List, [], length, Some, Ok, ap, ◌∙◌}
 use Rattle.std.specs.Prelude.{nat_lt, not, ◌&&◌, codes}
 use Rattle.kid_sexp.specs.Plain.{Plain, Plains, atom, one}
 use Rattle.kid_value.specs.PlainSort.{PlainSort}

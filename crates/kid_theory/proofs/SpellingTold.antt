@@ -1,7 +1,7 @@
 -- The forms of a theory that is read are its forms.
 use Rattle.std.proofs.Common.{◌≡◌, ℕ, suc, Bool, true, false, if◌then◌else◌, List, [], ◌∷◌, ◌++◌, Ok, refl, sym, ap, ◌∙◌, subst, append_assoc, append-nil}
 use Rattle.std.specs.Prelude.{codes}
-use Rattle.kid_sexp.specs.Plain.{Plain, Plains, atom, none, more, one}
+use Rattle.kid_sexp.specs.Plain.{Plain, Plains, none, more, one}
 use Rattle.kid_value.specs.PlainSort.{PlainSort}
 use Rattle.kid_term.specs.Names.{Names, PlainDef}
 use Rattle.kid_term.specs.PlainTerm.{PlainTerm}
@@ -97,7 +97,7 @@ require_before : (defs : List PlainDef) (inputs : Names) (taken : Taken) (c : Pl
     → u ≡ headed (codes "require") (one (term_spelling c)) → AfterDefinitions defs inputs (more u us) t
 require_before defs inputs taken c u us t after is =
     let d = is ∙ ap (λ (b : PlainTerm). headed (codes "require") (one (term_spelling b))) after.condition in
-    let e = after.trees ∙ ap (λ (as : List PlainLaw). axioms_before as (last_forms t)) after.axioms in
+    let e = after.trees ∙ ap (λ (all : List PlainLaw). axioms_before all (last_forms t)) after.axioms in
     record {
       rest = [];
       all_inputs = append-nil inputs ∙ after.inputs;

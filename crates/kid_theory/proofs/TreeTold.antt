@@ -1,9 +1,9 @@
 -- What has the shape of a part is the tree of that part.
-use Rattle.std.proofs.Common.{◌≡◌, ℕ, Bool, true, List, [], ◌∷◌, ◌++◌, Option, Some, None, Ok, Err, refl, sym, ap, ◌∙◌}
+use Rattle.std.proofs.Common.{◌≡◌, ℕ, true, List, [], ◌∷◌, ◌++◌, Option, Some, None, Ok, Err, refl, ap, ◌∙◌}
 use Rattle.std.specs.Prelude.{◌&&◌, option_map, codes}
 use Rattle.std.specs.List.{list_all}
 use Rattle.kid_sexp.specs.Plain.{Plain, Plains, atom, list, none, more, one}
-use Rattle.kid_value.specs.PlainSort.{PlainSort, bools}
+use Rattle.kid_value.specs.PlainSort.{PlainSort}
 use Rattle.kid_value.specs.SortLimits.{is_allowed}
 use Rattle.kid_value.proofs.SortLemmas.{and_parts}
 use Rattle.kid_term.specs.Names.{Names, PlainDef}

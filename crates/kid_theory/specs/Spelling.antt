@@ -1,6 +1,6 @@
 -- A theory as a forest.
 use Rattle.std.specs.Prelude.{◌≡◌, ℕ, true, List, [], ◌∷◌, Ok, codes}
-use Rattle.kid_sexp.specs.Plain.{Plain, Plains, atom, list, none, more, one}
+use Rattle.kid_sexp.specs.Plain.{Plain, Plains, atom, list, more, one}
 use Rattle.kid_sexp.specs.Spells.{Spells}
 use Rattle.kid_term.specs.PlainTerm.{term_row}
 use Rattle.kid_codec.specs.DeclaredSpelling.{named_spelling, names_spelling, definitions_before, inputs_before}
@@ -25,7 +25,7 @@ axiom_spelling a =
 -- axioms, and then the forms after them
 abbrev pub axioms_before : List PlainLaw → Plains → Plains
 axioms_before [] rest = rest
-axioms_before (a ∷ as) rest = more (axiom_spelling a) (axioms_before as rest)
+axioms_before (a ∷ others) rest = more (axiom_spelling a) (axioms_before others rest)
 
 abbrev pub last_forms : PlainTheory → Plains
 last_forms t =
