@@ -1,10 +1,8 @@
 -- Statements that meet the rules one after another.
-use Rattle.std.proofs.Common.{◌≡◌, ℕ, ◌+◌, ◌<◌, ◌≤◌, Bool, true, false, not, ◌&&◌, ◌||◌, if◌then◌else◌, List, [], ◌∷◌, ◌++◌, length, get_or, drop, take, map, Option, Some, None, Ok, Err, refl, sym, ap, ◌∙◌, arith, subst, append_assoc}
-use Rattle.std.proofs.lemmas.List.{drop_all, map-append, take_more}
+use Rattle.std.proofs.Common.{◌≡◌, ℕ, ◌+◌, ◌<◌, ◌≤◌, Bool, true, false, not, ◌&&◌, if◌then◌else◌, List, ◌∷◌, length, get_or, drop, map, Option, Some, None, Ok, Err, refl, sym, ap, ◌∙◌, arith, subst}
+use Rattle.std.proofs.lemmas.List.{drop_all}
 use Rattle.kid_value.specs.PlainSort.{never, bools, ints, pairs, sets, seqs, maps}
-use Rattle.kid_value.specs.NameView.{plain_name}
-use Rattle.kid_value.specs.declared.sort.Sort.{Sort}
-use Rattle.kid_term.specs.Names.{Names, same_name, is_named}
+use Rattle.kid_term.specs.Names.{Names, is_named}
 use Rattle.kid_term.specs.Sorted.{Sorted}
 use Rattle.kid_term.specs.Sorting.{sort_of}
 use Rattle.kid_sorting.specs.Declaring.{is_within, with_name}

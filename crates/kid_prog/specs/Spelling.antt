@@ -2,7 +2,7 @@
 use Rattle.std.specs.Prelude.{pos, Bool, true, ◌&&◌, codes}
 use Rattle.std.specs.List.{list_all}
 use Rattle.kid_sexp.specs.Plain.{Plain, Plains, atom, list, none, more, one}
-use Rattle.kid_term.specs.PlainTerm.{PlainTerm, term_row}
+use Rattle.kid_term.specs.PlainTerm.{term_row}
 use Rattle.kid_codec.specs.Name.{is_name}
 use Rattle.kid_codec.specs.SortSpelling.{number_tree, headed}
 pub use Rattle.kid_codec.specs.DeclaredSpelling.{named_spelling, names_spelling, definition_spelling, definitions_before, inputs_before, is_spelled_name, is_spelled_definition}
