@@ -1,7 +1,7 @@
--- What a form of a theory tells that was not refused.
+-- What a form of a theory tells that was not refused: it is the tree of what it holds, which has a spelling and keeps the rules.
 use Rattle.std.proofs.Common.{◌≡◌, ℕ, true, List, [], length, Some, Ok, refl, sym, ap, ◌∙◌, subst}
 use Rattle.std.specs.Prelude.{nat_lt, not, ◌&&◌, codes}
-use Rattle.kid_sexp.specs.Plain.{Plain, Plains}
+use Rattle.kid_sexp.specs.Plain.{Plain, Plains, atom, one}
 use Rattle.kid_value.specs.PlainSort.{PlainSort, bools}
 use Rattle.kid_value.specs.SortLimits.{is_allowed}
 use Rattle.kid_value.proofs.SortLemmas.{and_parts}
@@ -10,25 +10,35 @@ use Rattle.kid_term.specs.PlainTerm.{PlainTerm}
 use Rattle.kid_term.specs.Sorted.{Sorted}
 use Rattle.kid_term.specs.Sorting.{sort_of}
 use Rattle.kid_sorting.specs.Declaring.{is_truth, is_sorted_definition, is_shallow}
-use Rattle.kid_codec.specs.DeclaredSpelling.{is_spelled_name, is_spelled_definition}
-use Rattle.kid_codec.specs.TermSpelling.{is_spelled_term}
+use Rattle.kid_codec.specs.DeclaredSpelling.{named_spelling, definition_spelling, is_spelled_name, is_spelled_definition}
+use Rattle.kid_codec.specs.Name.{is_name}
+use Rattle.kid_codec.specs.SortSpelling.{headed}
+use Rattle.kid_codec.specs.TermSpelling.{term_spelling, is_spelled_term}
 use Rattle.kid_codec.proofs.Found.{bind_some}
 use Rattle.kid_theory.specs.Ahead.{calls_ahead}
 use Rattle.kid_theory.specs.Judged.{Judged, ◌>>=◌, shaped, tested}
-use Rattle.kid_theory.specs.Shapes.{theory_term, lone, lone_term, declared_form, definition_shape}
+use Rattle.kid_theory.specs.Shapes.{word_of, lone, lone_word, lone_term, declared_form, definition_shape}
 use Rattle.kid_theory.specs.Taken.{Taken, is_free, are_free}
-use Rattle.kid_theory.specs.Forms.{judged_definition, definition_form, judged_name, input_form, output_form, condition_form}
+use Rattle.kid_theory.specs.Forms.{title_form, judged_definition, definition_form, judged_name, input_form, output_form, condition_form}
 use Rattle.kid_theory.specs.declared.fault.TheoryCode.TheVariants as code
-use Rattle.kid_theory.proofs.ShapeTold.{free_name, form_told, term_spelled, definition_told}
+use Rattle.kid_theory.proofs.ShapeTold.{free_name, word_tree, lone_tree, declared_form_told, lone_truth_told, definition_told}
 use Rattle.kid_theory.proofs.Passed.{found, found_same, tested_ok, shaped_ok}
 
 truth_sorted : (r : Sorted) → is_truth r ≡ true → r ≡ Ok bools
 truth_sorted (Ok bools) h = refl
 truth_sorted r h = cc
 
--- a condition is a truth value, and has a spelling
+pub title_told : (t : Plain) (u : Unit {0}) → title_form t ≡ Ok u → (name : List ℕ) × (is_name name ≡ true) × (t ≡ headed (codes "theory") (one (atom name)))
+title_told t u p =
+    let s = shaped_ok (lone_word (codes "theory") t) (λ w. tested (is_name w) code.Name (Ok tt)) u p in
+    let w : List ℕ = s.0 in
+    let n = tested_ok (is_name w) code.Name (found tt) u s.2 in
+    let c = bind_some (lone (codes "theory") t) word_of w s.1 in
+    (w, n.0, lone_tree (codes "theory") t c.0 c.1 ∙ ap (λ (v : Plain). headed (codes "theory") (one v)) (word_tree c.0 w c.2))
+
+-- a condition is a truth value
 pub condition_told : (word : List ℕ) (defs : List PlainDef) (names : Names) (t : Plain) (c : PlainTerm) → condition_form word defs names t ≡ Ok c
-    → (sort_of defs names c ≡ Ok bools) × (is_spelled_term c ≡ true)
+    → (sort_of defs names c ≡ Ok bools) × (is_spelled_term c ≡ true) × (t ≡ headed word (one (term_spelling c)))
 condition_told word defs names t c p =
     let judge : PlainTerm → Judged PlainTerm = λ d. tested (is_truth (sort_of defs names d)) code.Sort (Ok d) in
     let s = shaped_ok (lone_term word t) judge c p in
@@ -36,8 +46,8 @@ condition_told word defs names t c p =
     let q = tested_ok (is_truth (sort_of defs names d)) code.Sort (found d) c s.2 in
     let same = found_same d c q.1 in
     let sorted = truth_sorted (sort_of defs names d) q.0 in
-    let l = bind_some (lone word t) theory_term d s.1 in
-    (ap (λ (e : PlainTerm). sort_of defs names e) (sym same) ∙ sorted, ap is_spelled_term (sym same) ∙ term_spelled defs names l.0 d bools l.2 sorted)
+    let k = lone_truth_told word defs names t d s.1 q.0 in
+    (ap (λ (e : PlainTerm). sort_of defs names e) (sym same) ∙ sorted, ap is_spelled_term (sym same) ∙ k.1, k.0 ∙ ap (λ (e : PlainTerm). headed word (one (term_spelling e))) same)
 
 -- a name that is new with an allowed sort, which has a spelling
 pub record NameTold (taken : Taken) (n : List ℕ × PlainSort) : Type 0 where
@@ -45,26 +55,30 @@ pub record NameTold (taken : Taken) (n : List ℕ × PlainSort) : Type 0 where
   pub allowed : is_allowed n.1 ≡ true
   pub spelled : is_spelled_name n ≡ true
 
-name_told : (word : List ℕ) (taken : Taken) (t : Plain) (m n : List ℕ × PlainSort) → declared_form word t ≡ Some m → judged_name taken m ≡ Ok n → NameTold taken n
+name_told : (word : List ℕ) (taken : Taken) (t : Plain) (m n : List ℕ × PlainSort) → declared_form word t ≡ Some m → judged_name taken m ≡ Ok n
+    → NameTold taken n × (t ≡ headed word (named_spelling n))
 name_told word taken t m n e p =
     let a = tested_ok (is_free taken m.0) code.Name (tested (is_allowed m.1) code.Sort (found m)) n p in
     let b = tested_ok (is_allowed m.1) code.Sort (found m) n a.1 in
     let same = found_same m n b.1 in
-    subst (NameTold taken) same (record { free = a.0; allowed = b.0; spelled = form_told word t m e (free_name taken m.0 a.0) b.0 })
+    let k = declared_form_told word t m e (free_name taken m.0 a.0) b.0 in
+    (subst (NameTold taken) same (record { free = a.0; allowed = b.0; spelled = k.1 }), k.0 ∙ ap (λ (o : List ℕ × PlainSort). headed word (named_spelling o)) same)
 
-pub output_told : (taken : Taken) (t : Plain) (n : List ℕ × PlainSort) → output_form taken t ≡ Ok n → NameTold taken n
+pub output_told : (taken : Taken) (t : Plain) (n : List ℕ × PlainSort) → output_form taken t ≡ Ok n → NameTold taken n × (t ≡ headed (codes "output") (named_spelling n))
 output_told taken t n p =
     let s = shaped_ok (declared_form (codes "output") t) (judged_name taken) n p in
     name_told (codes "output") taken t s.0 n s.1 s.2
 
-pub input_told : (inputs : Names) (taken : Taken) (t : Plain) (n : List ℕ × PlainSort) → input_form inputs taken t ≡ Ok n → (nat_lt (length inputs) 16 ≡ true) × NameTold taken n
+pub input_told : (inputs : Names) (taken : Taken) (t : Plain) (n : List ℕ × PlainSort) → input_form inputs taken t ≡ Ok n
+    → (nat_lt (length inputs) 16 ≡ true) × NameTold taken n × (t ≡ headed (codes "input") (named_spelling n))
 input_told inputs taken t n p =
     let limit = tested_ok (nat_lt (length inputs) 16) code.Limit (shaped (declared_form (codes "input") t) >>= judged_name taken) n p in
     let s = shaped_ok (declared_form (codes "input") t) (judged_name taken) n limit.1 in
-    (limit.0, name_told (codes "input") taken t s.0 n s.1 s.2)
+    let k = name_told (codes "input") taken t s.0 n s.1 s.2 in
+    (limit.0, k.0, k.1)
 
 pub definition_form_told : (defs : List PlainDef) (taken : Taken) (later : Plains) (t : Plain) (d : PlainDef) → definition_form defs taken later t ≡ Ok d
-    → (is_sorted_definition defs d ≡ true) × (is_spelled_definition d ≡ true)
+    → (is_sorted_definition defs d ≡ true) × (is_spelled_definition d ≡ true) × (t ≡ definition_spelling d)
 definition_form_told defs taken later t d p =
     let s = shaped_ok (definition_shape t) (judged_definition defs taken later) d p in
     let g : PlainDef = s.0 in
@@ -77,5 +91,5 @@ definition_form_told defs taken later t d p =
     let e = tested_ok (is_sorted_definition defs g) code.Sort (found g) d c.1 in
     let same = found_same g d e.1 in
     let names = and_parts (is_free taken g.name) (are_free [] g.parameters) b.0 in
-    let spelled = definition_told defs t g s.1 (free_name taken g.name names.0) names.1 e.0 in
-    (ap (is_sorted_definition defs) (sym same) ∙ e.0, ap is_spelled_definition (sym same) ∙ spelled)
+    let k = definition_told defs t g s.1 (free_name taken g.name names.0) names.1 e.0 in
+    (ap (is_sorted_definition defs) (sym same) ∙ e.0, ap is_spelled_definition (sym same) ∙ k.1, k.0 ∙ ap definition_spelling same)

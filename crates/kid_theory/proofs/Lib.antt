@@ -1,7 +1,7 @@
+pub mod AxiomTold
 pub mod CommonSorts
 pub mod DepthLemmas
 pub mod FormTold
-pub mod FormTrees
 pub mod Laws
 pub mod NameRows
 pub mod Passed
@@ -12,4 +12,3 @@ pub mod Stages
 pub mod TakenLemmas
 pub mod TheoryTold
 pub mod TermRows
-pub mod TreeTold

@@ -16,7 +16,8 @@ use Rattle.kid_theory.specs.Reading.{◌>>=◌, at, Front, with_axiom, theory_wi
 use Rattle.kid_theory.specs.Spelling.{axiom_spelling, axioms_before, last_forms, later_forms, theory_spelling}
 use Rattle.kid_theory.specs.Taken.{Taken}
 use Rattle.kid_theory.specs.declared.fault.TheoryCode.TheVariants as code
-use Rattle.kid_theory.proofs.FormTrees.{title_tree, output_tree, input_tree, condition_tree, definition_form_tree, axiom_form_tree}
+use Rattle.kid_theory.proofs.AxiomTold.{axiom_form_told}
+use Rattle.kid_theory.proofs.FormTold.{title_told, output_told, input_told, condition_told, definition_form_told}
 use Rattle.kid_theory.proofs.Stages.{not_refused, staged, ended, ended_none}
 
 joined : {X : Type 0} (before : List X) (x : X) (rest all : List X) → (before ++ x ∷ []) ++ rest ≡ all → before ++ (x ∷ rest) ≡ all
@@ -38,7 +39,7 @@ output_spelled k f output v none t is e = absurd (not_refused (suc k) code.Form 
 output_spelled k f output v (more u us) t is e =
     let a = staged (suc k) (condition_form (codes "ensure") f.definitions (f.inputs ++ output ∷ []) u) (λ relation. at_end (suc k) (theory_with f output relation) us) t e in
     let relation : PlainTerm = a.0 in
-    let c = condition_tree (codes "ensure") f.definitions (f.inputs ++ output ∷ []) u relation a.1 in
+    let c = (condition_told (codes "ensure") f.definitions (f.inputs ++ output ∷ []) u relation a.1).2 in
     let d = ended_none (suc k) (theory_with f output relation) t us a.2 in
     subst (AfterCondition f (more v (more u us))) (ended (suc k) (theory_with f output relation) t us a.2)
     (record {
@@ -76,10 +77,10 @@ axiom_spelled : (k : ℕ) (f : Front) (u : Plain) (us : Plains) (t : PlainTheory
     → AfterCondition f (more u us) t
 axiom_spelled k f u us t spelled true e =
     let a = staged (suc k) (axiom_form f.definitions f.inputs f.taken f.variables u) (λ a. after_condition (suc k) (with_axiom f a) us) t e in
-    axiom_before f a.0 u us t (spelled (with_axiom f a.0) a.2) (axiom_form_tree f.definitions f.inputs f.taken f.variables u a.0 a.1)
+    axiom_before f a.0 u us t (spelled (with_axiom f a.0) a.2) (axiom_form_told f.definitions f.inputs f.taken f.variables u a.0 a.1).2
 axiom_spelled k f u us t spelled false e =
     let a = staged (suc k) (output_form (f.taken ++ f.variables) u) (λ output. after_output (suc k) f output us) t e in
-    output_spelled (suc k) f a.0 u us t (output_tree (f.taken ++ f.variables) u a.0 a.1) a.2
+    output_spelled (suc k) f a.0 u us t (output_told (f.taken ++ f.variables) u a.0 a.1).1 a.2
 
 condition_spelled : (k : ℕ) (ts : Plains) (t : PlainTheory) → ConditionSpelled k ts t
 condition_spelled k none t f e = absurd (not_refused (suc k) code.Form t e)
@@ -129,10 +130,10 @@ input_spelled : (k : ℕ) (defs : List PlainDef) (inputs : Names) (taken : Taken
     → AfterDefinitions defs inputs (more u us) t
 input_spelled k defs inputs taken u us t spelled true e =
     let a = staged (suc k) (input_form inputs taken u) (λ n. after_inputs (suc k) defs (inputs ++ n ∷ []) (taken ++ n.0 ∷ []) us) t e in
-    input_before defs inputs a.0 u us t (spelled (inputs ++ a.0 ∷ []) (taken ++ a.0.0 ∷ []) a.2) (input_tree inputs taken u a.0 a.1)
+    input_before defs inputs a.0 u us t (spelled (inputs ++ a.0 ∷ []) (taken ++ a.0.0 ∷ []) a.2) (input_told inputs taken u a.0 a.1).2
 input_spelled k defs inputs taken u us t spelled false e =
     let a = staged (suc k) (condition_form (codes "require") defs inputs u) (λ condition. after_condition (suc k) (front_of defs inputs taken condition) us) t e in
-    require_before defs inputs taken a.0 u us t (condition_spelled (suc k) us t (front_of defs inputs taken a.0) a.2) (condition_tree (codes "require") defs inputs u a.0 a.1)
+    require_before defs inputs taken a.0 u us t (condition_spelled (suc k) us t (front_of defs inputs taken a.0) a.2) (condition_told (codes "require") defs inputs u a.0 a.1).2
 
 inputs_spelled : (k : ℕ) (ts : Plains) (defs : List PlainDef) (t : PlainTheory) → InputsSpelled k ts defs t
 inputs_spelled k none defs t inputs taken e = absurd (not_refused (suc k) code.Form t e)
@@ -176,7 +177,7 @@ definition_spelled : (k : ℕ) (defs : List PlainDef) (taken : Taken) (u : Plain
 definition_spelled k defs taken u us t spelled true e =
     let a = staged (suc k) (definition_form defs taken us u) (λ d. after_definitions (suc k) (defs ++ d ∷ []) (taken ++ d.name ∷ []) us) t e in
     let d : PlainDef = a.0 in
-    definition_before defs d u us t (spelled (defs ++ d ∷ []) (taken ++ d.name ∷ []) a.2) (definition_form_tree defs taken us u d a.1)
+    definition_before defs d u us t (spelled (defs ++ d ∷ []) (taken ++ d.name ∷ []) a.2) (definition_form_told defs taken us u d a.1).2
 definition_spelled k defs taken u us t spelled false e = inputs_after defs (more u us) t (inputs_spelled k (more u us) defs t [] taken e)
 
 definitions_spelled : (k : ℕ) (ts : Plains) (t : PlainTheory) → DefinitionsSpelled k ts t
@@ -194,7 +195,7 @@ pub forms_told : (ts : Plains) (t : PlainTheory) → theory_from ts ≡ Ok t →
 forms_told none t e = absurd (not_refused 1 code.Form t e)
 forms_told (more u us) t e =
     let a = staged 1 (title_form u) (λ _. after_definitions 1 [] [] us) t e in
-    let title = title_tree u a.0 a.1 in
+    let title = title_told u a.0 a.1 in
     let name : List ℕ = title.0 in
     let after = definitions_spelled 1 us t [] [] a.2 in
     let c = title.2 in

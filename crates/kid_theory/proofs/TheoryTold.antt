@@ -17,11 +17,12 @@ use Rattle.kid_codec.specs.DeclaredSpelling.{is_spelled_name, is_spelled_definit
 use Rattle.kid_codec.specs.TermSpelling.{is_spelled_term}
 use Rattle.kid_kernel.specs.PlainLaw.{PlainLaw}
 use Rattle.kid_kernel.specs.PlainTheory.{PlainTheory}
-use Rattle.kid_theory.specs.Forms.{begins, title_form, definition_form, input_form, output_form, condition_form, axiom_form}
-use Rattle.kid_theory.specs.IsTheory.{IsTheory}
+use Rattle.kid_theory.specs.Forms.{begins, title_form, definition_form, input_form, output_form, condition_form, is_sorted_law, axiom_form}
+use Rattle.kid_theory.specs.IsTheory.{is_spelled_axiom, IsTheory}
 use Rattle.kid_theory.specs.Reading.{◌>>=◌, at, Front, with_axiom, theory_with, front_of, at_end, after_output, after_condition, after_inputs, after_definitions, theory_from}
 use Rattle.kid_theory.specs.Taken.{Taken}
 use Rattle.kid_theory.specs.declared.fault.TheoryCode.TheVariants as code
+use Rattle.kid_theory.proofs.AxiomTold.{axiom_form_told}
 use Rattle.kid_theory.proofs.FormTold.{NameTold, condition_told, output_told, input_told, definition_form_told}
 use Rattle.kid_theory.proofs.Stages.{not_refused, staged, ended}
 use Rattle.kid_theory.proofs.TakenLemmas.{Among, among_more, among_with, free_apart, few_more}
@@ -77,9 +78,11 @@ record Standing (f : Front) : Type 0 where
   known : Known f.definitions f.inputs f.taken
   condition : sort_of f.definitions f.inputs f.condition ≡ Ok bools
   spelled : is_spelled_term f.condition ≡ true
+  axioms_sorted : list_all (is_sorted_law f.definitions f.inputs) f.axioms ≡ true
+  axioms_spelled : list_all is_spelled_axiom f.axioms ≡ true
 
-axiom_standing : (f : Front) (a : PlainLaw) → Standing f → Standing (with_axiom f a)
-axiom_standing f a s = record {
+axiom_standing : (f : Front) (a : PlainLaw) → Standing f → is_sorted_law f.definitions f.inputs a ≡ true → is_spelled_axiom a ≡ true → Standing (with_axiom f a)
+axiom_standing f a s sorted spelled = record {
   known = record {
     sound = s.known.sound;
     spelled = s.known.spelled;
@@ -90,13 +93,15 @@ axiom_standing f a s = record {
   };
   condition = s.condition;
   spelled = s.spelled;
+  axioms_sorted = grown (is_sorted_law f.definitions f.inputs) f.axioms a s.axioms_sorted sorted;
+  axioms_spelled = grown is_spelled_axiom f.axioms a s.axioms_spelled spelled;
 }
 
 front_standing : (defs : List PlainDef) (inputs : Names) (taken : Taken) (t : Plain) (c : PlainTerm) → Known defs inputs taken → condition_form (codes "require") defs inputs t ≡ Ok c
     → Standing (front_of defs inputs taken c)
 front_standing defs inputs taken t c known p =
     let q = condition_told (codes "require") defs inputs t c p in
-    record { known = known; condition = q.0; spelled = q.1 }
+    record { known = known; condition = q.0; spelled = q.1; axioms_sorted = refl; axioms_spelled = refl }
 
 theory_told : (f : Front) (output : List ℕ × PlainSort) (t : Plain) (relation : PlainTerm) → Standing f → NameTold (f.taken ++ f.variables) output
     → condition_form (codes "ensure") f.definitions (f.inputs ++ output ∷ []) t ≡ Ok relation → IsTheory (theory_with f output relation)
@@ -115,6 +120,8 @@ theory_told f output t relation s named p =
       condition = s.condition;
       relation = q.0;
       spelled = and_both (list_all is_spelled_definition f.definitions && list_all is_spelled_name f.inputs && is_spelled_term f.condition && is_spelled_name output) (is_spelled_term relation) three q.1;
+      axioms_sorted = s.axioms_sorted;
+      axioms_spelled = s.axioms_spelled;
     }
 
 output_read : (k : ℕ) (f : Front) (output : List ℕ × PlainSort) (ts : Plains) (t : PlainTheory) → Standing f → NameTold (f.taken ++ f.variables) output
@@ -137,10 +144,11 @@ axiom_read : (k : ℕ) (f : Front) (u : Plain) (us : Plains) (t : PlainTheory) �
     → IsTheory t
 axiom_read k f u us t s reads true e =
     let a = staged (suc k) (axiom_form f.definitions f.inputs f.taken f.variables u) (λ a. after_condition (suc k) (with_axiom f a) us) t e in
-    reads (with_axiom f a.0) a.2 (axiom_standing f a.0 s)
+    let told = axiom_form_told f.definitions f.inputs f.taken f.variables u a.0 a.1 in
+    reads (with_axiom f a.0) a.2 (axiom_standing f a.0 s told.0 told.1)
 axiom_read k f u us t s reads false e =
     let a = staged (suc k) (output_form (f.taken ++ f.variables) u) (λ output. after_output (suc k) f output us) t e in
-    output_read (suc k) f a.0 us t s (output_told (f.taken ++ f.variables) u a.0 a.1) a.2
+    output_read (suc k) f a.0 us t s (output_told (f.taken ++ f.variables) u a.0 a.1).0 a.2
 
 condition_read : (k : ℕ) (ts : Plains) (t : PlainTheory) → AxiomsRead k ts t
 condition_read k none t f e s = absurd (not_refused (suc k) code.Form t e)
