@@ -17,7 +17,8 @@ use Rattle.kid_value.proofs.RowLemmas.{row_items, table_entries}
 use Rattle.kid_value.proofs.SortLemmas.{and_parts}
 use Rattle.kid_codec.specs.Name.{starts_with_letter}
 use Rattle.kid_codec.specs.Reading.{◌>>=◌}
-use Rattle.kid_codec.specs.ValueSpelling.{value_spelling, value_spellings, entry_spellings, is_spelled_value, are_spelled_values, are_spelled_entries, with_entry, with_entries, set_from, seq_from, map_from, distinct_entries, spelled_value, spelled_values, spelled_entries}
+use Rattle.kid_value.specs.Rows.Kinds.{set_of_all, sequence_from, map_from}
+use Rattle.kid_codec.specs.ValueSpelling.{value_spelling, value_spellings, entry_spellings, is_spelled_value, are_spelled_values, are_spelled_entries, with_entry, with_entries, distinct_entries, spelled_value, spelled_values, spelled_entries}
 use Rattle.kid_codec.proofs.Numbers.{number_of-decimal, bytes_eq-true, no_letter}
 
 put-first : (x : PlainValue) (xs : List PlainValue) → AllAfter x xs → put x xs ≡ x ∷ xs
@@ -84,8 +85,8 @@ mutual
       let q = value_back b c.1 r.1 in
       λ i. both pair (p i) (q i)
   value_back (set vs) c h =
-      ap (option_map set_from) (values_back vs c.1 h) ∙ ap (λ (l : List PlainValue). Some (set (row l))) (set_of-ascends (items vs) c.0) ∙ ap (λ (l : PlainValues). Some (set l)) (row_items vs)
-  value_back (seq vs) c h = ap (option_map seq_from) (values_back vs c h) ∙ ap (λ (l : PlainValues). Some (seq l)) (row_items vs)
+      ap (option_map set_of_all) (values_back vs c.1 h) ∙ ap (λ (l : List PlainValue). Some (set (row l))) (set_of-ascends (items vs) c.0) ∙ ap (λ (l : PlainValues). Some (set l)) (row_items vs)
+  value_back (seq vs) c h = ap (option_map sequence_from) (values_back vs c h) ∙ ap (λ (l : PlainValues). Some (seq l)) (row_items vs)
   value_back (map_of es) c h =
       ap (λ (o : Option (List (PlainValue × PlainValue))). option_map map_from (distinct_entries o)) (entries_back es c.1 h)
       ∙ ap (option_map map_from) (entries_kept [] (entries es) c.0) ∙ ap (λ (l : PlainEntries). Some (map_of l)) (table_entries es)

@@ -13,7 +13,8 @@ use Rattle.kid_value.specs.ValueOrder.{value_cmp}
 use Rattle.kid_value.specs.ValueSet.{put, put_by, set_of}
 use Rattle.kid_value.proofs.SortLemmas.{and_parts, and_both}
 use Rattle.kid_codec.specs.Number.{number_of}
-use Rattle.kid_codec.specs.ValueSpelling.{is_spelled_value, are_spelled_values, are_spelled_entries, atom_value, with_entry, with_entries, set_from, seq_from, map_from, distinct_entries, value_of_parts, spelled_value, spelled_list, spelled_pair, spelled_values, spelled_entry, key_and_value, spelled_entries}
+use Rattle.kid_value.specs.Rows.Kinds.{set_of_all, sequence_from, map_from}
+use Rattle.kid_codec.specs.ValueSpelling.{is_spelled_value, are_spelled_values, are_spelled_entries, atom_value, with_entry, with_entries, distinct_entries, value_of_parts, spelled_value, spelled_list, spelled_pair, spelled_values, spelled_entry, key_and_value, spelled_entries}
 use Rattle.kid_codec.proofs.Found.{same_some, if_some, if_else, mapped, both_some, bind_some, number_from}
 
 abbrev is_spelled_entry : PlainValue × PlainValue → Bool
@@ -85,15 +86,15 @@ EntriesSpelled ts = (es : List (PlainValue × PlainValue)) → spelled_entries t
 parts_spelled : (w : List ℕ) (ts : Plains) (v : PlainValue) → PairSpelled ts → ValuesSpelled ts → EntriesSpelled ts
     → value_of_parts w (spelled_pair ts) (spelled_values ts) (spelled_entries ts) ≡ Some v → is_spelled_value v ≡ true
 parts_spelled w ts v f g k p =
-    let j = option_map set_from (spelled_values ts) in
-    let l = option_map seq_from (spelled_values ts) in
+    let j = option_map set_of_all (spelled_values ts) in
+    let l = option_map sequence_from (spelled_values ts) in
     let n = option_map map_from (distinct_entries (spelled_entries ts)) in
     elim (if_else (bytes_eq w (codes "pair")) (spelled_pair ts) (if bytes_eq w (codes "set") then j else (if bytes_eq w (codes "seq") then l else (if bytes_eq w (codes "map") then n else None))) v p) [
       | inl r ↦ f v r.1
       | inr r ↦ elim (if_else (bytes_eq w (codes "set")) j (if bytes_eq w (codes "seq") then l else (if bytes_eq w (codes "map") then n else None)) v r.1) [
-        | inl q ↦ let m = mapped set_from (spelled_values ts) v q.1 in ap is_spelled_value (sym m.2) ∙ set_spelled m.0 (g m.0 m.1)
+        | inl q ↦ let m = mapped set_of_all (spelled_values ts) v q.1 in ap is_spelled_value (sym m.2) ∙ set_spelled m.0 (g m.0 m.1)
         | inr q ↦ elim (if_else (bytes_eq w (codes "seq")) l (if bytes_eq w (codes "map") then n else None) v q.1) [
-          | inl o ↦ let m = mapped seq_from (spelled_values ts) v o.1 in ap is_spelled_value (sym m.2) ∙ g m.0 m.1
+          | inl o ↦ let m = mapped sequence_from (spelled_values ts) v o.1 in ap is_spelled_value (sym m.2) ∙ g m.0 m.1
           | inr o ↦
               let i = if_some (bytes_eq w (codes "map")) n v o.1 in
               let m = mapped map_from (distinct_entries (spelled_entries ts)) v i.1 in

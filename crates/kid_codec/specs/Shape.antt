@@ -1,5 +1,5 @@
 -- Forms, and lists of so many trees.
-use Rattle.std.specs.Prelude.{ℕ, Bool, false, List, Option, Some, None, if◌then◌else◌}
+use Rattle.std.specs.Prelude.{ℕ, Bool, true, false, List, Option, Some, None, if◌then◌else◌}
 use Rattle.std.specs.Str.{bytes_eq}
 use Rattle.kid_sexp.specs.Plain.{Plain, Plains, atom, list, none, more}
 
@@ -13,6 +13,14 @@ abbrev pub form : List ℕ → Plain → Option Plains
 form word (atom w) = None
 form word (list none) = None
 form word (list (more t ts)) = if is_atom word t then Some ts else None
+
+-- whether the tree begins with the word
+abbrev pub begins : List ℕ → Plain → Bool
+begins word t = is_there (form word t)
+  where
+    is_there : Option Plains → Bool
+    is_there None = false
+    is_there (Some ts) = true
 
 abbrev pub single : Plains → Option Plain
 single none = None

@@ -8,7 +8,8 @@ use Rattle.kid_value.specs.SortOrder.{both}
 use Rattle.kid_value.specs.SortLimits.{in_limits}
 use Rattle.kid_value.specs.PlainValue.{PlainValue, int, bool, pair, set, seq, map_of, PlainValues, none, more, PlainEntries, no_entry, entry, row, table}
 use Rattle.kid_value.specs.ValueMap.{put_entry, keys}
-use Rattle.kid_value.specs.ValueSet.{is_member, set_of}
+use Rattle.kid_value.specs.ValueSet.{is_member}
+use Rattle.kid_value.specs.Rows.Kinds.{set_of_all, sequence_from, map_from}
 use Rattle.kid_codec.specs.Number.{number_of}
 use Rattle.kid_codec.specs.Reading.{fitting, ◌>>=◌}
 use Rattle.kid_codec.specs.SortSpelling.{number_tree, headed}
@@ -66,15 +67,6 @@ abbrev pub with_entries : List (PlainValue × PlainValue) → List (PlainValue �
 with_entries known [] = Some known
 with_entries known (e ∷ es) = with_entry known e >>= λ more. with_entries more es
 
-abbrev pub set_from : List PlainValue → PlainValue
-set_from vs = set (row (set_of vs))
-
-abbrev pub seq_from : List PlainValue → PlainValue
-seq_from vs = seq (row vs)
-
-abbrev pub map_from : List (PlainValue × PlainValue) → PlainValue
-map_from es = map_of (table es)
-
 -- the map of entries, of which no two may have one key
 abbrev pub distinct_entries : Option (List (PlainValue × PlainValue)) → Option (List (PlainValue × PlainValue))
 distinct_entries es = es >>= with_entries []
@@ -83,8 +75,8 @@ distinct_entries es = es >>= with_entries []
 abbrev pub value_of_parts : List ℕ → Option PlainValue → Option (List PlainValue) → Option (List (PlainValue × PlainValue)) → Option PlainValue
 value_of_parts w paired values entries =
     if bytes_eq w (codes "pair") then paired
-    else (if bytes_eq w (codes "set") then option_map set_from values
-    else (if bytes_eq w (codes "seq") then option_map seq_from values
+    else (if bytes_eq w (codes "set") then option_map set_of_all values
+    else (if bytes_eq w (codes "seq") then option_map sequence_from values
     else (if bytes_eq w (codes "map") then option_map map_from (distinct_entries entries) else None)))
 
 -- the value that a tree spells

@@ -11,7 +11,7 @@ use Rattle.kid_term.specs.Sorting.{sort_of}
 use Rattle.kid_sorting.specs.Declaring.{is_new, are_new, are_allowed, is_truth, is_sorted_definition, is_shallow, is_undefined}
 use Rattle.kid_sorting.specs.PlainSignature.{PlainSignature}
 use Rattle.kid_codec.specs.Reading.{◌>>=◌}
-use Rattle.kid_codec.specs.Shape.{form, single, couple, quadruple}
+use Rattle.kid_codec.specs.Shape.{form, begins, single, couple, quadruple}
 use Rattle.kid_codec.specs.SortSpelling.{spelled_number, spelled_sort}
 use Rattle.kid_codec.specs.TermSpelling.{spelled_name, spelled_term}
 use Rattle.kid_prog.specs.PlainStmt.{PlainStmts}
@@ -54,18 +54,10 @@ version_of (Some n) = if int_eq n (pos 1) then Ok tt else Err code.Version
 abbrev pub version_form : Plain → Result (Unit {0}) LoadCode
 version_form t = version_of (form (codes "program") t >>= single >>= spelled_number)
 
--- whether the tree begins with the word
-abbrev pub is_form : List ℕ → Plain → Bool
-is_form word t = is_there (form word t)
-  where
-    is_there : Option Plains → Bool
-    is_there None = false
-    is_there (Some ts) = true
-
 -- ---- (def NAME ((NAME SORT) ..) SORT TERM)
 
 abbrev pub is_def : Plain → Bool
-is_def t = is_form (codes "def") t
+is_def t = begins (codes "def") t
 
 abbrev pub definition : List ℕ → Names → PlainSort → PlainTerm → PlainDef
 definition f ps s t = record { name = f; parameters = ps; sort = s; body = t }
@@ -84,7 +76,7 @@ def_form defs t = judged (is_formed_definition defs) (is_sorted_definition defs)
 -- ---- (input NAME SORT)
 
 abbrev pub is_input : Plain → Bool
-is_input t = is_form (codes "input") t
+is_input t = begins (codes "input") t
 
 -- a name that no definition and no input has
 abbrev pub is_undeclared : PlainSignature → List ℕ → Bool

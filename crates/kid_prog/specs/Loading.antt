@@ -13,14 +13,10 @@ use Rattle.kid_prog.specs.Forms.{version_form, is_def, def_form, is_input, input
 use Rattle.kid_prog.specs.declared.fault.LoadCode.{LoadCode}
 use Rattle.kid_prog.specs.declared.fault.LoadCode.TheVariants as code
 use Rattle.kid_prog.specs.declared.fault.LoadFault.{LoadFault}
+pub use Rattle.kid_term.specs.Chain.{◌>>=◌}
 
 abbrev pub Loaded : Type 0 → Type 0
 Loaded A = Result A LoadFault
-
-infixl 10 ◌>>=◌
-abbrev pub ◌>>=◌ : {A B : Type 0} → Loaded A → (A → Loaded B) → Loaded B
-(Ok x) >>= f = f x
-(Err e) >>= f = Err e
 
 abbrev pub refused : {A : Type 0} → ℕ → LoadCode → Loaded A
 refused k c = Err (record { form = k; code = c })

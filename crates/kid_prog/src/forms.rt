@@ -7,14 +7,14 @@ ghost use Rattle.kid_value.specs.SortView.{plain_sort};
 ghost use Rattle.kid_term.specs.DefView.{plain_def};
 ghost use Rattle.kid_term.specs.TermView.{plain_term};
 ghost use Rattle.kid_codec.specs.Reading.{Finds};
-ghost use Rattle.kid_codec.specs.Shape.{single as single_tree};
+ghost use Rattle.kid_codec.specs.Shape.{begins, single as single_tree};
 ghost use Rattle.kid_codec.specs.SortSpelling.{spelled_number};
 ghost use Rattle.kid_codec.specs.TermSpelling.{spelled_term as term_of_tree};
 ghost use Rattle.kid_prog.specs.PlainStmt.{stmt_row};
 ghost use Rattle.kid_prog.specs.StmtShape.{spelled_stmts as stmts_of_trees};
 ghost use Rattle.kid_prog.specs.FormAnswers.{Judges};
 ghost use Rattle.kid_prog.specs.FormParts.{behind, alone};
-ghost use Rattle.kid_prog.specs.Forms.{version_of, version_form, is_form, is_def, def_parts, def_form, is_input, is_undeclared, named_form, input_form, require_form, output_form, are_undefined, are_undeclared, first_names, if_proper, known_parameters, main_sorted, main_form, search_parts, search_sorted, search_form};
+ghost use Rattle.kid_prog.specs.Forms.{version_of, version_form, is_def, def_parts, def_form, is_input, is_undeclared, named_form, input_form, require_form, output_form, are_undefined, are_undeclared, first_names, if_proper, known_parameters, main_sorted, main_form, search_parts, search_sorted, search_form};
 
 use crate::fault::LoadCode;
 use crate::known::Known;

@@ -1,4 +1,5 @@
 pub mod CallDepth
+pub mod Chain
 pub mod Contexts
 pub mod Cost
 pub mod DefCode

@@ -3,6 +3,7 @@ use Rattle.std.specs.Prelude.{ℕ, ℤ, cond, List, [], ◌∷◌, Option, Some,
 use Rattle.kid_value.specs.PlainSort.{PlainSort, never, bools, ints, pairs, sets, seqs, maps}
 use Rattle.kid_value.specs.SortOrder.{join}
 use Rattle.kid_value.specs.SortLimits.{is_allowed}
+pub use Rattle.kid_term.specs.Chain.{◌>>=◌}
 
 -- why a term has no sort
 pub data Fault : Type 0 where
@@ -15,11 +16,6 @@ pub data Fault : Type 0 where
 
 abbrev pub Sorted : Type 0
 Sorted = Result PlainSort Fault
-
-infixl 10 ◌>>=◌
-abbrev pub ◌>>=◌ : {A B : Type 0} → Result A Fault → (A → Result B Fault) → Result B Fault
-(Ok x) >>= f = f x
-(Err e) >>= f = Err e
 
 -- the sort, if it is allowed
 abbrev pub allowed : PlainSort → Sorted

@@ -11,21 +11,13 @@ use Rattle.kid_term.specs.Sorted.{Sorted}
 use Rattle.kid_term.specs.Sorting.{sort_of}
 use Rattle.kid_sorting.specs.Declaring.{are_allowed, is_truth, is_sorted_definition, is_shallow}
 use Rattle.kid_codec.specs.Name.{is_name}
-use Rattle.kid_codec.specs.Shape.{form}
+pub use Rattle.kid_codec.specs.Shape.{begins}
 use Rattle.kid_kernel.specs.PlainLaw.{PlainConclusion, equal, holds, PlainLaw}
 use Rattle.kid_theory.specs.Judged.{Judged, ◌>>=◌, shaped, tested}
 use Rattle.kid_theory.specs.Taken.{Taken, is_free, are_free}
 use Rattle.kid_theory.specs.Ahead.{calls_ahead}
 use Rattle.kid_theory.specs.Shapes.{lone_word, lone_term, declared_form, definition_shape, axiom_shape}
 use Rattle.kid_theory.specs.declared.fault.TheoryCode.TheVariants as code
-
--- whether the form begins with the word
-abbrev pub begins : List ℕ → Plain → Bool
-begins word t = is_there (form word t)
-  where
-    is_there : Option Plains → Bool
-    is_there None = false
-    is_there (Some ts) = true
 
 -- ---- (theory NAME)
 

@@ -2,14 +2,10 @@
 use Rattle.std.specs.Prelude.{Bool, true, false, Option, Some, None, Result, Ok, Err}
 use Rattle.kid_theory.specs.declared.fault.TheoryCode.{TheoryCode}
 use Rattle.kid_theory.specs.declared.fault.TheoryCode.TheVariants as code
+pub use Rattle.kid_term.specs.Chain.{◌>>=◌}
 
 abbrev pub Judged : Type 0 → Type 0
 Judged A = Result A TheoryCode
-
-infixl 10 ◌>>=◌
-abbrev pub ◌>>=◌ : {A B : Type 0} → Judged A → (A → Judged B) → Judged B
-(Ok x) >>= f = f x
-(Err c) >>= f = Err c
 
 -- what a form has the shape of
 abbrev pub shaped : {A : Type 0} → Option A → Judged A

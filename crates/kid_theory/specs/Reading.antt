@@ -14,14 +14,10 @@ use Rattle.kid_theory.specs.Forms.{begins, title_form, definition_form, input_fo
 use Rattle.kid_theory.specs.declared.fault.TheoryCode.{TheoryCode}
 use Rattle.kid_theory.specs.declared.fault.TheoryCode.TheVariants as code
 use Rattle.kid_theory.specs.declared.fault.TheoryFault.{TheoryFault}
+pub use Rattle.kid_term.specs.Chain.{◌>>=◌}
 
 abbrev pub Read : Type 0 → Type 0
 Read A = Result A TheoryFault
-
-infixl 10 ◌>>=◌
-abbrev pub ◌>>=◌ : {A B : Type 0} → Read A → (A → Read B) → Read B
-(Ok x) >>= f = f x
-(Err e) >>= f = Err e
 
 abbrev pub refused : {A : Type 0} → ℕ → TheoryCode → Read A
 refused k c = Err (record { form = k; code = c })
