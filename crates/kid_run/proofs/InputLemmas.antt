@@ -5,9 +5,10 @@ use Rattle.kid_sexp.specs.Plain.{Plain, Plains, more}
 use Rattle.kid_sexp.specs.Tree.{plain, plains}
 use Rattle.kid_value.specs.PlainValue.{PlainValue}
 use Rattle.kid_value.specs.PlainSort.{PlainSort}
+use Rattle.kid_value.specs.SortOrder.{both}
 use Rattle.kid_term.specs.Names.{Names}
 use Rattle.kid_term.specs.Fitting.{IsOfSort, AreOfSorts}
-use Rattle.kid_run.specs.InputReading.{value_from, values_from, input_from, after_input, inputs_from, and_then, sorts_of, AllFit, ValuesFit, LaterFit}
+use Rattle.kid_run.specs.InputReading.{value_from, values_from, input_from, after_input, inputs_from, sorts_of, AllFit, ValuesFit, LaterFit}
 
 -- these inputs, and then those that are read
 abbrev pub put_before : List (List PlainValue) → Result (List (List PlainValue)) ℕ → Result (List (List PlainValue)) ℕ
@@ -19,7 +20,7 @@ append-one [] x ys = refl
 append-one (z ∷ xs) x ys = ap (λ zs. z ∷ zs) (append-one xs x ys)
 
 pub one_after : (done : List PlainValue) (v : PlainValue) (o : Option (List PlainValue))
-    → option_map (λ rest. (done ++ v ∷ []) ++ rest) o ≡ option_map (λ rest. done ++ rest) (and_then (Some v) o)
+    → option_map (λ rest. (done ++ v ∷ []) ++ rest) o ≡ option_map (λ rest. done ++ rest) (both (λ w ws. w ∷ ws) (Some v) o)
 one_after done v None = refl
 one_after done v (Some vs) = ap Some (append-one done v vs)
 
@@ -42,7 +43,7 @@ pub values_more : {E : Type 0} (n : List ℕ × PlainSort) (ns : Names) (t : Pla
 values_more n ns t ts done v pushed (Err e) found push h = tt
 values_more n ns t ts done v pushed (Ok o) found push h =
     h ∙ ap (λ (p : List PlainValue). option_map (λ (rest : List PlainValue). p ++ rest) (values_from ns ts)) push ∙ one_after done v (values_from ns ts)
-    ∙ ap (λ (w : Option PlainValue). option_map (λ rest. done ++ rest) (and_then w (values_from ns ts))) (sym found)
+    ∙ ap (λ (w : Option PlainValue). option_map (λ rest. done ++ rest) (both (λ x xs. x ∷ xs) w (values_from ns ts))) (sym found)
 
 put_more : (done : List (List PlainValue)) (vs : List PlainValue) (number : ℕ) (r : Result (List (List PlainValue)) ℕ)
     → put_before (done ++ vs ∷ []) r ≡ put_before done (after_input (Some vs) number r)

@@ -1,4 +1,5 @@
 pub mod InputLemmas
+pub mod InputsTold
 pub mod Depths
 pub mod Scopes
 pub mod SpelledValues

@@ -6,6 +6,7 @@ use Rattle.kid_sexp.specs.Brackets.{Fault}
 use Rattle.kid_sexp.specs.Reading.{reading}
 use Rattle.kid_value.specs.PlainValue.{PlainValue}
 use Rattle.kid_value.specs.PlainSort.{PlainSort}
+use Rattle.kid_value.specs.SortOrder.{both}
 use Rattle.kid_term.specs.Names.{Names}
 use Rattle.kid_term.specs.Fitting.{IsOfSort, AreOfSorts}
 use Rattle.kid_term.specs.Eval.{Env, bound}
@@ -15,14 +16,10 @@ use Rattle.kid_codec.specs.ValueSpelling.{value_reading}
 abbrev pub value_from : PlainSort → Plain → Option PlainValue
 value_from s t = result_ok (value_reading s t)
 
-abbrev pub and_then : Option PlainValue → Option (List PlainValue) → Option (List PlainValue)
-and_then (Some v) (Some vs) = Some (v ∷ vs)
-and_then v vs = None
-
 -- as many values as names, each of its name's sort
 abbrev pub values_from : Names → Plains → Option (List PlainValue)
 values_from [] none = Some []
-values_from (n ∷ ns) (more t ts) = and_then (value_from n.1 t) (values_from ns ts)
+values_from (n ∷ ns) (more t ts) = both (λ v vs. v ∷ vs) (value_from n.1 t) (values_from ns ts)
 values_from ns ts = None
 
 -- a list of the inputs' values
@@ -30,12 +27,13 @@ abbrev pub input_from : Names → Plain → Option (List PlainValue)
 input_from ns (atom w) = None
 input_from ns (list ts) = values_from ns ts
 
--- the inputs' values for each form, or the number of the first form that has none; so many forms stand before them
+-- a form's input before those of the later forms, or the form's number where it has none
 abbrev pub after_input : Option (List PlainValue) → ℕ → Result (List (List PlainValue)) ℕ → Result (List (List PlainValue)) ℕ
 after_input None number rest = Err number
 after_input (Some vs) number (Ok inputs) = Ok (vs ∷ inputs)
 after_input (Some vs) number (Err later) = Err later
 
+-- the inputs' values for each form, or the number of the first form that has none; so many forms stand before them
 abbrev pub inputs_from : Names → ℕ → Plains → Result (List (List PlainValue)) ℕ
 inputs_from ns k none = Ok []
 inputs_from ns k (more t ts) = after_input (input_from ns t) (suc k) (inputs_from ns (suc k) ts)

@@ -1,6 +1,7 @@
 pub mod Running
 pub mod Lines
 pub mod InputReading
+pub mod InputSpelling
 pub mod Gives
 pub mod Reporting
 pub mod Frames

@@ -5,6 +5,7 @@ ghost use Rattle.kid_value.specs.SortView.{plain_sort};
 ghost use Rattle.kid_value.specs.ValueView.{plain};
 ghost use Rattle.kid_prog.specs.ProgramView.{plain_program};
 ghost use Rattle.kid_run.specs.InputReading.{value_from, values_from, input_from, inputs_from, inputs_reading, AllFit, ValueFits, ValuesFit, LaterFit};
+ghost use Rattle.kid_run.specs.InputSpelling.{InputsAreSpelled};
 ghost use Rattle.kid_run.specs.Gives.{InputsGiven};
 ghost use Rattle.kid_run.specs.declared.inputs.InputFault.TheVariants.{Memory as OutOfMemory};
 
@@ -181,9 +182,11 @@ fn read_all(alloc: Global, names: &[(Text, Sort)], bytes: &[u8]) -> Result<Input
 ///
 /// `Form`: the number of the first form that is no such list, counted from 1, and 0 where the text does not read or has more
 /// than 4194304 bytes. `Memory`: memory is wanting.
+#[tactic(auto, using(crate::proofs::InputsTold::spelled_result))]
 pub fn read_inputs(alloc: Global, program: &Program, bytes: &[u8]) -> Result<Inputs, InputFault>
     ensures reading { InputsGiven result (inputs_reading (plain_program program.now).inputs bytes.now) }
     ensures fit { IfOk result (λ inputs. AllFit (plain_program program.now).inputs inputs) }
+    ensures spelled { IfOk result (λ inputs. InputsAreSpelled (plain_program program.now).inputs bytes.now inputs) }
 {
     read_all(alloc, program.signature.inputs(), bytes)
 }

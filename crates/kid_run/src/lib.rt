@@ -3,6 +3,7 @@
 
 mod frame;
 mod inputs;
+mod law;
 mod lines;
 mod machine;
 mod moves;
@@ -15,5 +16,6 @@ mod scope;
 mod tally;
 
 pub use inputs::{InputFault, Inputs, read_inputs};
+pub use law::{inputs_are_spelled, spelled_inputs_are_read};
 pub use report::{Outcome, Report, RunEntry};
 pub use runner::{RunFault, run};

@@ -1,6 +1,5 @@
 use Rattle.std.proofs.Common.{◌≡◌, ◌++◌, ℕ, List, ◌∷◌, IfOk, option_map, map, sym, ap, ◌∙◌, subst}
 use Rattle.kid_sexp.specs.declared.tree.Tree.{Tree}
-use Rattle.kid_sexp.specs.Plain.{more}
 use Rattle.kid_sexp.specs.Tree.{plain as plain_tree, plains}
 use Rattle.kid_value.specs.declared.sort.Sort.{Sort}
 use Rattle.kid_value.specs.NameView.{plain_name}

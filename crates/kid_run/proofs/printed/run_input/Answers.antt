@@ -1,7 +1,5 @@
-use Rattle.std.proofs.Common.{rules, ◌≡◌, true, List, [], ◌∷◌, IfOk, ap, sym, ◌∙◌, subst, cond, length, arith}
-use Rattle.std.proofs.lemmas.List.{length-map}
+use Rattle.std.proofs.Common.{rules, ◌≡◌, true, List, [], ◌∷◌, IfOk, ap, sym, ◌∙◌, subst, cond}
 use Rattle.kid_value.specs.PlainValue.{PlainValue}
-use Rattle.kid_value.specs.ValueView.{plain}
 use Rattle.kid_value.specs.Rows.Parts.{truth_of}
 use Rattle.kid_term.specs.Eval.{Env, bound, eval, calls_of}
 use Rattle.kid_term.specs.Fitting.{Fits}

@@ -1,0 +1,12 @@
+//! Laws of input files, each the contract of a function that does nothing.
+ghost use Rattle.kid_run.specs.InputSpelling.{ReadInputsAreSpelled, SpelledInputsAreRead};
+
+/// Inputs that are read are those that the file spells.
+pub fn inputs_are_spelled()
+    ensures { ReadInputsAreSpelled }
+{}
+
+/// Inputs that a file spells are read.
+pub fn spelled_inputs_are_read()
+    ensures { SpelledInputsAreRead }
+{}
