@@ -43,3 +43,8 @@ abbrev pub KeepsWhole : Option Command → Counts → Counts → Option Held →
 KeepsWhole (Some (derive theory script derivation program)) before now (Some files) (Some after) =
     NoneRose derivation program before now → SavesOwn (work_of (derive theory script derivation program) files) derivation program files after
 KeepsWhole command before now files after = ⊤
+
+-- what derive has saved after a failure: nothing, where no call on its two names failed, since all else fails before
+abbrev pub LeavesFiles : Option Command → Counts → Counts → Option Held → Option Held → Type 0
+LeavesFiles (Some (derive theory script derivation program)) before now files after = NoneRose derivation program before now → after ≡ files
+LeavesFiles command before now files after = ⊤
