@@ -1,5 +1,5 @@
--- What derive saved where no call on its two names failed.
-use Rattle.std.proofs.Common.{◌≡◌, ℕ, ◌≤◌, OnOk, IfErr, List, Option, Some, None, option_map, Result, Ok, Err, refl, ap, ◌∙◌, subst, inl, inr}
+-- What derive saved where no call on its two names failed, and after a failure.
+use Rattle.std.proofs.Common.{◌≡◌, ℕ, ◌≤◌, OnOk, IfErr, List, Option, Some, None, option_map, Result, Ok, Err, refl, ap, ◌∙◌, subst, inl, inr, ⊎_elim}
 use Rattle.kid_outer.specs.Held.{Held, update}
 use Rattle.kid_outer.specs.Causes.{Rose, NeverFall}
 use Rattle.kid_top.specs.declared.stop.Stop.{Stop}
@@ -8,8 +8,8 @@ use Rattle.kid_top.specs.Outcome.{Work, runs, saves}
 use Rattle.kid_top.specs.WorkView.{Suits}
 use Rattle.kid_top.specs.Risen.{Counts}
 use Rattle.kid_top.specs.Saves.{SavesOne, NoneRose, SavesFront}
-use Rattle.kid_top.specs.Finishing.{FinishWhole}
-use Rattle.kid_top.specs.Kept.{KeepsWhole}
+use Rattle.kid_top.specs.Finishing.{FinishRose, FinishWhole}
+use Rattle.kid_top.specs.Kept.{KeepsWhole, LeavesFiles}
 use Rattle.kid_top.proofs.StageLemmas.{rose_later}
 use Rattle.kid_top.proofs.Performed.{GivesWork}
 
@@ -69,3 +69,27 @@ pub whole-by : (words : List (List ℕ)) (command : Command) (w : Work) (before 
     → GivesWork command w h → NeverFall before mid → FinishWhole w mid now h after → KeepsWhole (command_of words) before now h after
 whole-by words command w before mid now h after fits suits gives later k =
     subst (λ (c : Option Command). KeepsWhole c before now h after) fits (whole-finished command w before mid now h after suits gives later k)
+
+-- ---- after a failure
+
+pub leaves-untouched : (command : Option Command) (before now : Counts) (h after : Option Held) → after ≡ h → LeavesFiles command before now h after
+leaves-untouched None before now h after e = tt
+leaves-untouched (Some (run program inputs fuel)) before now h after e = tt
+leaves-untouched (Some (solve theory script inputs fuel)) before now h after e = tt
+leaves-untouched (Some (derive theory script derivation program)) before now h after e = λ none. e
+
+-- what failed while the work was done is one of derive's two names
+leaves-finished : (command : Command) (w : Work) (before mid now : Counts) (out_before out_now : ℕ) (h after : Option Held) → Suits command w → NeverFall before mid
+    → FinishRose w mid now out_before out_now → LeavesFiles (Some command) before now h after
+leaves-finished (run program inputs fuel) w before mid now out_before out_now h after suits later rose = tt
+leaves-finished (solve theory script inputs fuel) w before mid now out_before out_now h after suits later rose = tt
+leaves-finished (derive theory script derivation program) (runs p xs fuel) before mid now out_before out_now h after suits later rose = absurd suits
+leaves-finished (derive theory script derivation program) (saves d p bytes text) before mid now out_before out_now h after suits later rose = λ none. absurd (⊎_elim
+    (λ r. none.0 (subst (λ (x : List ℕ). Rose (before x) (now x)) suits.0 (rose_later (before d) (mid d) (now d) (later d) r)))
+    (λ r. none.1 (subst (λ (x : List ℕ). Rose (before x) (now x)) suits.1 (rose_later (before p) (mid p) (now p) (later p) r)))
+    rose)
+
+pub leaves-by : (words : List (List ℕ)) (command : Command) (w : Work) (before mid now : Counts) (out_before out_now : ℕ) (h after : Option Held)
+    → Some command ≡ command_of words → Suits command w → NeverFall before mid → FinishRose w mid now out_before out_now → LeavesFiles (command_of words) before now h after
+leaves-by words command w before mid now out_before out_now h after fits suits later rose =
+    subst (λ (c : Option Command). LeavesFiles c before now h after) fits (leaves-finished command w before mid now out_before out_now h after suits later rose)

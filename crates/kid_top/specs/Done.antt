@@ -6,7 +6,6 @@ use Rattle.kid_kernel.specs.PlainTheory.{PlainTheory}
 use Rattle.kid_prog.specs.ProgramText.{program_text}
 use Rattle.kid_prog.specs.PlainProgram.{PlainProgram}
 use Rattle.kid_top.specs.declared.stop.Stop.{Stop}
-use Rattle.kid_top.specs.declared.stop.Stop.TheVariants as stop
 use Rattle.kid_top.specs.Derivation.{derivation_text}
 use Rattle.kid_top.specs.Command.{Command, derive, solve}
 use Rattle.kid_top.specs.Outcome.{Work, saves, work_status, work_text, theory_stage, inputs_stage, script_program, run_work, solve_work, derive_work, outcome}

@@ -3,7 +3,6 @@ use Rattle.std.specs.Prelude.{◌≡◌, ℕ, List, Option, Some, None, Result, 
 use Rattle.kid_outer.specs.Causes.{Rose}
 use Rattle.kid_outer.specs.Held.{Held}
 use Rattle.kid_top.specs.declared.stop.Stop.{Stop}
-use Rattle.kid_top.specs.declared.stop.Stop.TheVariants as stop
 use Rattle.kid_top.specs.Stops.{status_of}
 use Rattle.kid_top.specs.Command.{Command, derive, command_of}
 use Rattle.kid_top.specs.Outcome.{Work, work_status, work_of, outcome}

@@ -2,7 +2,6 @@
 use Rattle.std.specs.Prelude.{◌≡◌, ◌≢◌, ℕ, List, Option, Some, None, Result, Ok, Err, ◌⊎◌, ⊤}
 use Rattle.kid_outer.specs.Held.{Held}
 use Rattle.kid_top.specs.declared.stop.Stop.{Stop}
-use Rattle.kid_top.specs.declared.stop.Stop.TheVariants as stop
 use Rattle.kid_top.specs.Stops.{status_of}
 use Rattle.kid_top.specs.Command.{Command, derive}
 use Rattle.kid_top.specs.Outcome.{Work, saves, work_of}
@@ -43,3 +42,8 @@ abbrev pub KeepsWhole : Option Command → Counts → Counts → Option Held →
 KeepsWhole (Some (derive theory script derivation program)) before now (Some files) (Some after) =
     NoneRose derivation program before now → SavesOwn (work_of (derive theory script derivation program) files) derivation program files after
 KeepsWhole command before now files after = ⊤
+
+-- what derive has saved after a failure: nothing, where no call on its two names failed, since all else fails before
+abbrev pub LeavesFiles : Option Command → Counts → Counts → Option Held → Option Held → Type 0
+LeavesFiles (Some (derive theory script derivation program)) before now files after = NoneRose derivation program before now → after ≡ files
+LeavesFiles command before now files after = ⊤

@@ -6,7 +6,7 @@ use Rattle.kid_top.specs.Words.{plain_command}
 use Rattle.kid_top.specs.WorkView.{plain_work}
 use Rattle.kid_top.proofs.Performed.{front-untouched, gives_work, files-by, derived-by}
 use Rattle.kid_top.specs.Command.{command_of}
-use Rattle.kid_top.proofs.Whole.{whole-untouched, whole-by}
+use Rattle.kid_top.proofs.Whole.{whole-untouched, whole-by, leaves-untouched, leaves-by}
 use Rattle.kid_top.proofs.top.perform.Goals as goal
 
 pub returns-in_err-work-clause-front : goal.returns-in_err-work-clause-front
@@ -47,3 +47,14 @@ returns-clause-whole g c =
     whole-by (map string_bytes c.args.words.now) (plain_command c.in-Some.command) w (g.S.Store.faults c.args.store.now) mid now (g.S.Store.held c.args.store.now) after
     c.in-Some.ensures.command c.in_ok-work.ensures.suits (gives_work (plain_command c.in-Some.command) (g.S.Store.held c.args.store.now) c.in_ok-work.work c.in_ok-work.ensures.outcome)
     c.work_of.ensures.later (subst (λ (h : Option Held). FinishWhole w mid now h after) c.in_ok-work.ensures.held c.finish.ensures.whole)
+
+pub returns-in_err-work-clause-intact : goal.returns-in_err-work-clause-intact
+returns-in_err-work-clause-intact g c = λ _.
+    leaves-untouched (command_of (map string_bytes c.args.words.now)) (g.S.Store.faults c.args.store.now) (g.S.Store.faults c.work_of.new.store) (g.S.Store.held c.args.store.now)
+    (g.S.Store.held c.work_of.new.store) c.work_of.ensures.held
+
+pub returns-clause-intact : goal.returns-clause-intact
+returns-clause-intact g c = λ e.
+    leaves-by (map string_bytes c.args.words.now) (plain_command c.in-Some.command) (plain_work c.in_ok-work.work) (g.S.Store.faults c.args.store.now)
+    (g.S.Store.faults c.work_of.new.store) (g.S.Store.faults c.finish.new.store) (g.O.Sink.faults c.args.out.now) (g.O.Sink.faults c.finish.new.out)
+    (g.S.Store.held c.args.store.now) (g.S.Store.held c.finish.new.store) c.in-Some.ensures.command c.in_ok-work.ensures.suits c.work_of.ensures.later (c.finish.ensures.failed e)
