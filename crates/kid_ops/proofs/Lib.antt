@@ -1,4 +1,5 @@
 pub mod BitLemmas
+pub mod EntryLaws
 pub mod EntryViews
 pub mod ItemLemmas
 pub mod MemberLaws

@@ -1,5 +1,6 @@
 pub mod Bits
 pub mod Chosen
+pub mod Entries
 pub mod Items
 pub mod Kinds
 pub mod Members

@@ -1,5 +1,5 @@
 //! The operators on values, one function for each, in a room for each group; and which values are
-//! in the sets that they make.
+//! in the sets and maps that they make.
 #![tactic(auto)]
 
 pub mod law;
