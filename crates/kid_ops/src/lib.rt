@@ -1,6 +1,8 @@
-//! The operators on values, one function for each, in a room for each group.
+//! The operators on values, one function for each, in a room for each group; and which values are
+//! in the sets and maps that they make.
 #![tactic(auto)]
 
+pub mod law;
 pub mod logic;
 pub mod map;
 mod merge;
