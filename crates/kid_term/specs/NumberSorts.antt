@@ -1,4 +1,4 @@
--- The sorts of the operators on integers: the least interval that the bounds of the arguments allow.
+-- The sorts of the operators on integers: by the bounds of the arguments an interval that holds each result.
 use Rattle.std.specs.Prelude.{ℕ, ◌-◌, max, ℤ, pos, ◌+ℤ◌, ◌-ℤ◌, ◌*ℤ◌, int_le, unsigned_abs, cond, List, Ok}
 use Rattle.std.specs.Int.{int_min, int_max, int_div_euclid}
 use Rattle.kid_value.specs.PlainSort.{PlainSort, bools, ints}

@@ -4,7 +4,7 @@ use Rattle.std.specs.Option.{option_map}
 use Rattle.std.specs.Int.{int_min, int_max}
 use Rattle.kid_value.specs.PlainSort.{PlainSort, never, bools, ints, pairs, sets, seqs, maps}
 
--- whether each value of the first is allowed in the second
+-- whether the first lies within the second, part by part: then each value of the first is one of the second
 abbrev pub is_subsort : PlainSort → PlainSort → Bool
 is_subsort never t = true
 is_subsort bools bools = true
