@@ -13,6 +13,9 @@ pub mod StageForms
 pub mod LoadTold
 pub mod SpellingBack
 pub mod SpellingSame
+pub mod FormBack
+pub mod LoadBack
+pub mod FormedTold
 pub mod Laws
 pub mod Rows
 pub mod Obeying

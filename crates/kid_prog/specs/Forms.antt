@@ -1,5 +1,5 @@
 -- The forms of a program file: what each holds by its shape, and the rules that it meets.
-use Rattle.std.specs.Prelude.{ℕ, ℤ, pos, nat_lt, Bool, true, false, ◌&&◌, List, [], ◌∷◌, ◌++◌, length, Option, Some, None, Result, Ok, Err, if◌then◌else◌, codes}
+use Rattle.std.specs.Prelude.{ℕ, ℤ, pos, nat_lt, Bool, true, ◌&&◌, List, [], ◌∷◌, ◌++◌, length, Option, Some, None, Result, Ok, Err, if◌then◌else◌, codes}
 use Rattle.std.specs.Ordering.{int_eq}
 use Rattle.kid_sexp.specs.Plain.{Plain, Plains, atom, list, none, more}
 use Rattle.kid_value.specs.PlainSort.{PlainSort}

@@ -1,6 +1,8 @@
 -- What holds of loading and of the text.
-use Rattle.std.specs.Prelude.{◌≡◌, ℕ, true, List, Ok}
+use Rattle.std.specs.Prelude.{◌≡◌, ℕ, ◌≤◌, true, List, length, Ok}
+use Rattle.kid_sexp.specs.Plain.{depth}
 use Rattle.kid_sexp.specs.Spells.{Spells}
+use Rattle.kid_prog.specs.Formed.{IsFormed}
 use Rattle.kid_prog.specs.PlainProgram.{PlainProgram}
 use Rattle.kid_prog.specs.Rules.{IsRunnable}
 use Rattle.kid_prog.specs.Spelling.{program_spelling, is_spelled_program}
@@ -19,3 +21,15 @@ LoadsAreSpelled = (bytes : List ℕ) (p : PlainProgram) → loading bytes ≡ Ok
 -- where a program's text loads, it gives the program
 abbrev pub TextsGiveBack : Type 0
 TextsGiveBack = (p q : PlainProgram) → is_spelled_program p ≡ true → loading (program_text p) ≡ Ok q → q ≡ p
+
+-- a program that has a spelling and keeps the rules loads from each file of at most 4,194,304 bytes that spells it
+abbrev pub FormedProgramsLoad : Type 0
+FormedProgramsLoad = (bytes : List ℕ) (p : PlainProgram) → is_spelled_program p ≡ true → IsFormed p → length bytes ≤ 4194304 → Spells bytes (program_spelling p) → loading bytes ≡ Ok p
+
+-- so does its own text, where lists nest at most 250 deep in it
+abbrev pub TextsLoad : Type 0
+TextsLoad = (p : PlainProgram) → is_spelled_program p ≡ true → IsFormed p → depth (program_spelling p) ≤ 250 → length (program_text p) ≤ 4194304 → loading (program_text p) ≡ Ok p
+
+-- no other files load: with what loads_are_spelled says, these are all
+abbrev pub LoadsAreFormed : Type 0
+LoadsAreFormed = (bytes : List ℕ) (p : PlainProgram) → loading bytes ≡ Ok p → (length bytes ≤ 4194304) × IsFormed p

@@ -1,5 +1,6 @@
 pub mod FormAnswers
 pub mod FormParts
+pub mod Formed
 pub mod Forms
 pub mod HeadingView
 pub mod Laws
