@@ -1,10 +1,16 @@
 pub mod AxiomTold
 pub mod CommonSorts
 pub mod DepthLemmas
+pub mod FormBack
+pub mod FormKept
 pub mod FormTold
 pub mod Laws
 pub mod NameRows
 pub mod Passed
+pub mod ReadBack
+pub mod ReadKept
+pub mod ShapeBack
+pub mod ShapeKept
 pub mod ShapeTold
 pub mod SpellingTold
 pub mod StageLemmas

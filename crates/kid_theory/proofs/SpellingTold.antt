@@ -20,7 +20,7 @@ use Rattle.kid_theory.proofs.AxiomTold.{axiom_form_told}
 use Rattle.kid_theory.proofs.FormTold.{title_told, output_told, input_told, condition_told, definition_form_told}
 use Rattle.kid_theory.proofs.Stages.{not_refused, staged, ended, ended_none}
 
-joined : {X : Type 0} (before : List X) (x : X) (rest all : List X) → (before ++ x ∷ []) ++ rest ≡ all → before ++ (x ∷ rest) ≡ all
+pub joined : {X : Type 0} (before : List X) (x : X) (rest all : List X) → (before ++ x ∷ []) ++ rest ≡ all → before ++ (x ∷ rest) ≡ all
 joined before x rest all p = sym (append_assoc before (x ∷ []) rest) ∙ p
 
 -- the trees after the condition are the forms of the axioms that are still to come, of the output and of the relation
@@ -87,12 +87,12 @@ condition_spelled k none t f e = absurd (not_refused (suc k) code.Form t e)
 condition_spelled k (more u us) t f e = axiom_spelled k f u us t (λ g p. condition_spelled (suc k) us t g p) (begins (codes "axiom") u) e
 
 -- the trees after the definitions and some inputs are the forms of the inputs that are still to come, and the forms after the inputs
-record AfterDefinitions (defs : List PlainDef) (inputs : Names) (ts : Plains) (t : PlainTheory) : Type 0 where
-  rest : Names
-  all_inputs : inputs ++ rest ≡ t.spec.inputs
-  definitions : defs ≡ t.signature.definitions
-  no_laws : t.laws ≡ []
-  trees : ts ≡ inputs_before rest (later_forms t)
+pub record AfterDefinitions (defs : List PlainDef) (inputs : Names) (ts : Plains) (t : PlainTheory) : Type 0 where
+  pub rest : Names
+  pub all_inputs : inputs ++ rest ≡ t.spec.inputs
+  pub definitions : defs ≡ t.signature.definitions
+  pub no_laws : t.laws ≡ []
+  pub trees : ts ≡ inputs_before rest (later_forms t)
 
 require_before : (defs : List PlainDef) (inputs : Names) (taken : Taken) (c : PlainTerm) (u : Plain) (us : Plains) (t : PlainTheory) → AfterCondition (front_of defs inputs taken c) us t
     → u ≡ headed (codes "require") (one (term_spelling c)) → AfterDefinitions defs inputs (more u us) t
@@ -119,7 +119,7 @@ input_before defs inputs n u us t after is =
       trees = λ i. more (is i) (d i);
     }
 
-abbrev InputsSpelled : ℕ → Plains → List PlainDef → PlainTheory → Type 0
+abbrev pub InputsSpelled : ℕ → Plains → List PlainDef → PlainTheory → Type 0
 InputsSpelled k ts defs t = (inputs : Names) (taken : Taken) → after_inputs k defs inputs taken ts ≡ Ok t → AfterDefinitions defs inputs ts t
 
 input_spelled : (k : ℕ) (defs : List PlainDef) (inputs : Names) (taken : Taken) (u : Plain) (us : Plains) (t : PlainTheory) → InputsSpelled (suc k) us defs t
@@ -135,7 +135,7 @@ input_spelled k defs inputs taken u us t spelled false e =
     let a = staged (suc k) (condition_form (codes "require") defs inputs u) (λ condition. after_condition (suc k) (front_of defs inputs taken condition) us) t e in
     require_before defs inputs taken a.0 u us t (condition_spelled (suc k) us t (front_of defs inputs taken a.0) a.2) (condition_told (codes "require") defs inputs u a.0 a.1).2
 
-inputs_spelled : (k : ℕ) (ts : Plains) (defs : List PlainDef) (t : PlainTheory) → InputsSpelled k ts defs t
+pub inputs_spelled : (k : ℕ) (ts : Plains) (defs : List PlainDef) (t : PlainTheory) → InputsSpelled k ts defs t
 inputs_spelled k none defs t inputs taken e = absurd (not_refused (suc k) code.Form t e)
 inputs_spelled k (more u us) defs t inputs taken e =
     input_spelled k defs inputs taken u us t (λ ns names p. inputs_spelled (suc k) us defs t ns names p) (begins (codes "input") u) e

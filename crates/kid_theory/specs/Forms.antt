@@ -1,5 +1,5 @@
 -- The forms of a theory: what each holds by its shape, and the rules that it meets, in the order in which they are tested.
-use Rattle.std.specs.Prelude.{ℕ, nat_lt, Bool, true, false, not, ◌&&◌, List, [], ◌∷◌, ◌++◌, length, Option, Some, None, is_some, Ok, codes}
+use Rattle.std.specs.Prelude.{ℕ, nat_lt, Bool, true, false, not, ◌&&◌, List, [], ◌∷◌, ◌++◌, length, is_some, Ok, codes}
 use Rattle.std.specs.List.{list_all}
 use Rattle.kid_sexp.specs.Plain.{Plain, Plains}
 use Rattle.kid_value.specs.PlainSort.{PlainSort}

@@ -1,5 +1,6 @@
 pub mod Ahead
 pub mod Answers
+pub mod Formed
 pub mod Forms
 pub mod FrontView
 pub mod IsTheory

@@ -11,5 +11,7 @@ mod reader;
 mod shape;
 
 pub use fault::{TheoryCode, TheoryFault};
-pub use law::{read_theories, theories_are_spelled};
+pub use law::{
+    formed_theories_are_read, read_theories, read_theories_are_formed, theories_are_spelled,
+};
 pub use reader::read_theory;

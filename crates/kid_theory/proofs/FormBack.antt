@@ -1,0 +1,70 @@
+-- The form of what keeps the rules is not refused.
+use Rattle.std.proofs.Common.{◌≡◌, ℕ, Bool, true, List, [], length, Option, Ok, ap, ◌∙◌}
+use Rattle.std.specs.Prelude.{nat_lt, not, ◌&&◌, codes}
+use Rattle.kid_sexp.specs.Plain.{Plains, atom, one}
+use Rattle.kid_value.specs.PlainSort.{PlainSort}
+use Rattle.kid_value.specs.SortLimits.{is_allowed}
+use Rattle.kid_value.proofs.SortLemmas.{and_parts, and_both}
+use Rattle.kid_term.specs.Names.{Names, PlainDef}
+use Rattle.kid_term.specs.PlainTerm.{PlainTerm}
+use Rattle.kid_term.specs.Sorting.{sort_of}
+use Rattle.kid_sorting.specs.Declaring.{is_truth, is_sorted_definition, is_shallow}
+use Rattle.kid_codec.specs.DeclaredSpelling.{named_spelling, definition_spelling, is_spelled_name, is_spelled_definition}
+use Rattle.kid_codec.specs.Name.{is_name}
+use Rattle.kid_codec.specs.SortSpelling.{headed}
+use Rattle.kid_codec.specs.TermSpelling.{term_spelling, is_spelled_term}
+use Rattle.kid_kernel.specs.PlainLaw.{PlainLaw}
+use Rattle.kid_theory.specs.Ahead.{calls_ahead}
+use Rattle.kid_theory.specs.Formed.{is_wordless, is_wordless_definition, is_wordless_law, names_of, is_formed_definition}
+use Rattle.kid_theory.specs.Forms.{title_form, judged_definition, definition_form, judged_name, input_form, output_form, condition_form, is_sorted_law, is_named_law, judged_law, axiom_form}
+use Rattle.kid_theory.specs.IsTheory.{is_spelled_axiom}
+use Rattle.kid_theory.specs.Judged.{◌>>=◌, shaped, tested}
+use Rattle.kid_theory.specs.Shapes.{declared_form}
+use Rattle.kid_theory.specs.Spelling.{axiom_spelling}
+use Rattle.kid_theory.specs.Taken.{Taken, is_free, are_free}
+use Rattle.kid_theory.specs.declared.fault.TheoryCode.TheVariants as code
+use Rattle.kid_theory.proofs.Passed.{found}
+use Rattle.kid_theory.proofs.ShapeBack.{lone_term_shaped, declared_shaped, definition_shaped, axiom_shaped}
+
+pub title_passed : (name : List ℕ) → is_name name ≡ true → title_form (headed (codes "theory") (one (atom name))) ≡ Ok tt
+title_passed name named = ap (λ (b : Bool). tested b code.Name (found tt)) named
+
+pub condition_passed : (word : List ℕ) (defs : List PlainDef) (names : Names) (c : PlainTerm) → is_spelled_term c ≡ true → is_wordless c ≡ true → is_truth (sort_of defs names c) ≡ true
+    → condition_form word defs names (headed word (one (term_spelling c))) ≡ Ok c
+condition_passed word defs names c spelled wordless truth =
+    ap (λ (o : Option PlainTerm). shaped o >>= λ d. tested (is_truth (sort_of defs names d)) code.Sort (found d)) (lone_term_shaped word c spelled wordless)
+    ∙ ap (λ (b : Bool). tested b code.Sort (found c)) truth
+
+name_passed : (taken : Taken) (n : List ℕ × PlainSort) → is_free taken n.0 ≡ true → is_allowed n.1 ≡ true → judged_name taken n ≡ Ok n
+name_passed taken n free allowed = λ i. tested (free i) code.Name (tested (allowed i) code.Sort (found n))
+
+pub output_passed : (taken : Taken) (n : List ℕ × PlainSort) → is_spelled_name n ≡ true → is_free taken n.0 ≡ true → is_allowed n.1 ≡ true
+    → output_form taken (headed (codes "output") (named_spelling n)) ≡ Ok n
+output_passed taken n spelled free allowed =
+    ap (λ (o : Option (List ℕ × PlainSort)). shaped o >>= judged_name taken) (declared_shaped (codes "output") n spelled) ∙ name_passed taken n free allowed
+
+pub input_passed : (inputs : Names) (taken : Taken) (n : List ℕ × PlainSort) → nat_lt (length inputs) 16 ≡ true → is_spelled_name n ≡ true → is_free taken n.0 ≡ true → is_allowed n.1 ≡ true
+    → input_form inputs taken (headed (codes "input") (named_spelling n)) ≡ Ok n
+input_passed inputs taken n few spelled free allowed =
+    ap (λ (b : Bool). tested b code.Limit (shaped (declared_form (codes "input") (headed (codes "input") (named_spelling n))) >>= judged_name taken)) few
+    ∙ ap (λ (o : Option (List ℕ × PlainSort)). shaped o >>= judged_name taken) (declared_shaped (codes "input") n spelled) ∙ name_passed taken n free allowed
+
+pub definition_passed : (before : List PlainDef) (later : Plains) (d : PlainDef) → is_spelled_definition d ≡ true → is_wordless_definition d ≡ true → is_formed_definition before later d ≡ true
+    → definition_form before (names_of before) later (definition_spelling d) ≡ Ok d
+definition_passed before later d spelled wordless formed =
+    let a = and_parts (is_shallow before d && is_free (names_of before) d.name && are_free [] d.parameters && not (calls_ahead d.name later d.body)) (is_sorted_definition before d) formed in
+    let b = and_parts (is_shallow before d && is_free (names_of before) d.name && are_free [] d.parameters) (not (calls_ahead d.name later d.body)) a.0 in
+    let c = and_parts (is_shallow before d && is_free (names_of before) d.name) (are_free [] d.parameters) b.0 in
+    let e = and_parts (is_shallow before d) (is_free (names_of before) d.name) c.0 in
+    let shallow = e.0 in
+    let free = and_both (is_free (names_of before) d.name) (are_free [] d.parameters) e.1 c.1 in
+    let behind = b.1 in
+    let sorted = a.1 in
+    ap (λ (o : Option PlainDef). shaped o >>= judged_definition before (names_of before) later) (definition_shaped d spelled wordless)
+    ∙ (λ i. tested (shallow i) code.Limit (tested (free i) code.Name (tested (behind i) code.Cycle (tested (sorted i) code.Sort (found d)))))
+
+pub axiom_passed : (defs : List PlainDef) (inputs : Names) (taken variables : Taken) (a : PlainLaw) → is_spelled_axiom a ≡ true → is_wordless_law a ≡ true
+    → is_named_law taken variables a ≡ true → is_sorted_law defs inputs a ≡ true → axiom_form defs inputs taken variables (axiom_spelling a) ≡ Ok a
+axiom_passed defs inputs taken variables a spelled wordless named sorted =
+    ap (λ (o : Option PlainLaw). shaped o >>= judged_law defs inputs taken variables) (axiom_shaped a spelled wordless)
+    ∙ (λ i. tested (named i) code.Name (tested (sorted i) code.Sort (found a)))
