@@ -244,6 +244,30 @@ def long_programs() -> Iterator[Case]:
             yield Case(f"derive: a program {name}", DERIVE, 10, b"(unbuilt 2)\n", files={"t": theory})
 
 
+def wide_test(uses: int, more: str) -> str:
+    """A test of `uses + 3` nodes and those in `more` that is true where z is 1. The program's has `2 * uses + 4` and those."""
+    return f"(in z (set{' z' * uses}{more}))"
+
+
+def deep_test(times: int) -> str:
+    """A test of depth `times + 2` that is true where z is 1 and `times` is odd. The program's is one deeper."""
+    return "(not " * times + "(eq z 2)" + ")" * times
+
+
+def large_tests() -> Iterator[Case]:
+    """Output conditions that a theory may have, and whose program's test is as large as a term may be, or larger."""
+    within = (("of 4,096 nodes", wide_test(2046, "")), ("of depth 128", deep_test(125)))
+    beyond = (("of 4,097 nodes", wide_test(2046, " 1")), ("of depth 129", deep_test(126)))
+    for cases, taken in ((within, True), (beyond, False)):
+        for size, test in cases:
+            name = f"solve: a program with a test {size}"
+            files = {"t": f"(theory t) (require true) (output z (int 1 1)) (ensure {test})".encode(), "i": b"()"}
+            if taken:
+                yield done(name, SOLVE, files=files, out=b"1\n(answers 1 splits 1)\n")
+            else:
+                yield Case(name, SOLVE, 10, b"(unbuilt 2)\n", files=files)
+
+
 FORMATS = (("theory", SOLVE, "t"), ("script", SOLVE, "s"), ("program", RUN, "p"), ("inputs", RUN, "i"))
 # the number of a form behind all that are there
 NEXT_FORM = {"theory": 6, "script": 2, "program": 7, "inputs": 4}
@@ -453,5 +477,5 @@ def all_cases() -> list[Case]:
     """Every case."""
     # those that take long come first, so that none is waited for at the end
     groups = (long_programs, many, without_end, sizes, wrong_words, fuel_words, absent_files, files_that_fail,
-              which_is_first, each_byte, brackets, lines, streams, saving, names, words_as_names)
+              large_tests, which_is_first, each_byte, brackets, lines, streams, saving, names, words_as_names)
     return [case for group in groups for case in group()]
