@@ -13,6 +13,7 @@ pub mod NameLemmas
 pub mod NumberSound
 pub mod PairSound
 pub mod Products
+pub mod QuoteLemmas
 pub mod Quotients
 pub mod Ranks
 pub mod RenameLemmas
