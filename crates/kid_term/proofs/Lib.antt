@@ -10,6 +10,7 @@ pub mod LogicSound
 pub mod MapSound
 pub mod Members
 pub mod NameLemmas
+pub mod NameRanks
 pub mod NumberSound
 pub mod PairSound
 pub mod Products
@@ -25,7 +26,6 @@ pub mod SetRanks
 pub mod SetSound
 pub mod SizeLemmas
 pub mod SortedValue
-pub mod SubsortLemmas
 pub mod Sums
 pub mod WordBits
 pub mod WordSound

@@ -3,7 +3,7 @@ use Rattle.std.proofs.Common.{◌≡◌, ℕ, ◌+◌, ◌<◌, ◌≤◌, suc, 
 use Rattle.std.specs.Prelude.{◌||◌, IfOk, Result, Ok, Err}
 use Rattle.std.proofs.lemmas.List.{append_assoc, append-nil, drop_all}
 use Rattle.kid_value.specs.Canonical.{IsCanonical, AreCanonical, EntriesAreCanonical}
-use Rattle.kid_value.specs.PlainValue.{PlainValue, int, bool, pair, set, seq, map_of, PlainValues, none, more, PlainEntries, no_entry, entry, items, row, entries, table, entry_heights}
+use Rattle.kid_value.specs.PlainValue.{PlainValue, int, bool, pair, set, seq, map_of, tag, PlainValues, none, more, PlainEntries, no_entry, entry, items, row, entries, table, entry_heights}
 use Rattle.kid_value.specs.Rows.Kinds.{set_from, set_of_all, sequence_from, map_from}
 use Rattle.kid_value.specs.Rows.Map as map_rows
 use Rattle.kid_value.specs.ValueMap.{keys, put_entry, put_entry_by}
@@ -54,6 +54,7 @@ module _ (calls : Calls) (env : Env) where
     eval-quote (set vs) c = ap set_of_all (evals-quotes vs c.1) ∙ ap set_from (set_of-ascending (items vs) c.0) ∙ ap set (row_items vs)
     eval-quote (seq vs) c = ap sequence_from (evals-quotes vs c) ∙ ap seq (row_items vs)
     eval-quote (map_of es) c = eval-all_put empty_map [] es refl c.0 c.1 ∙ ap map_of (table_entries es)
+    eval-quote (tag n) c = refl
 
     evals-quotes : (vs : PlainValues) → AreCanonical vs → evals calls env (quotes vs) ≡ items vs
     evals-quotes none c = refl
@@ -80,6 +81,7 @@ module _ (x : List ℕ) where
     mentions-quote (set vs) = mentions-quotes vs
     mentions-quote (seq vs) = mentions-quotes vs
     mentions-quote (map_of es) = mentions-all_put empty_map es refl
+    mentions-quote (tag n) = refl
 
     mentions-quotes : (vs : PlainValues) → some_mentions x (quotes vs) ≡ false
     mentions-quotes none = refl

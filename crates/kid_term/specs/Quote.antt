@@ -1,6 +1,7 @@
 -- The term of a value.
+use Rattle.kid_value.specs.PlainValue as value
 use Rattle.kid_value.specs.PlainValue.{PlainValue, int, bool, pair, set, seq, map_of, PlainValues, none, more, PlainEntries, no_entry, entry}
-use Rattle.kid_term.specs.PlainTerm.{op, PlainTerm, number, truth, app, PlainTerms, no_term, term}
+use Rattle.kid_term.specs.PlainTerm.{op, PlainTerm, number, truth, tag, app, PlainTerms, no_term, term}
 use Rattle.kid_term.specs.declared.operator.Op.TheVariants.{Pair, Set, Seq, Map}
 use Rattle.kid_term.specs.declared.operator.PairOp.TheVariants as pairs
 use Rattle.kid_term.specs.declared.operator.SetOp.TheVariants as sets
@@ -25,6 +26,7 @@ abbrev mutual
   quote (set vs) = app (op (Set sets.Set)) (quotes vs)
   quote (seq vs) = app (op (Seq seqs.Seq)) (quotes vs)
   quote (map_of es) = all_put empty_map es
+  quote (value.tag n) = tag n
 
   pub quotes : PlainValues → PlainTerms
   quotes none = no_term

@@ -38,11 +38,12 @@ pub use spec::Spec;
 pub use substitute::SubstFault;
 pub use why::Why;
 
-/// A number or a truth value.
-#[derive(Clone, Copy, Debug, PartialEq, Eq)]
+/// A number, a truth value, or the name that is a tag.
+#[derive(Debug, Drop)]
 pub enum Literal {
     Int(i64),
     Bool(bool),
+    Tag(Text),
 }
 
 /// What is applied: an operator, a definition by its name, or a cast to a sort.

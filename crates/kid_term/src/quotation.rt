@@ -32,6 +32,7 @@ fn quoted(alloc: Global, v: &Value) -> Result<Term, Memory>
     match v {
         Value::Int(n) => Ok(Term::Lit(Literal::Int(*n))),
         Value::Bool(b) => Ok(Term::Lit(Literal::Bool(*b))),
+        Value::Tag(name) => Ok(Term::Lit(Literal::Tag(name.copy(alloc)?))),
         Value::Pair(first, second) => {
             let first = quoted(alloc, first.get())?;
             let second = quoted(alloc, second.get())?;
