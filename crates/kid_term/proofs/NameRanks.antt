@@ -54,5 +54,5 @@ module _ (m n : List ℕ) (before : name_cmp m n ≡ Less) where
   names_before-lt (x ∷ ns) p =
       or_parts (bytes_eq m x) (is_among m ns) p
       (λ e. let q : one_where_less (name_cmp x n) ≡ 1 = ap one_where_less (ap (λ z. name_cmp z n) (sym (same_bytes m x e)) ∙ before) in
-          omega (arith, not_counted m x e, q, names_before-le ns))
+      omega (arith, not_counted m x e, q, names_before-le ns))
       (λ q. omega (arith, counted-le x, names_before-lt ns q))
