@@ -1,5 +1,5 @@
 -- The least value of a sort is its least.
-use Rattle.std.proofs.Common.{◌≡◌, ℕ, ℤ, true, false, ◌∷◌, Ordering, refl, arith}
+use Rattle.std.proofs.Common.{◌≡◌, ℕ, ℤ, true, false, [], ◌∷◌, Ordering, refl, arith}
 use Rattle.std.specs.declared.cmp.Ordering.TheVariants.{Less, Equal, Greater}
 use Rattle.std.specs.Ordering.{ordering_then, int_cmp}
 use Rattle.std.specs.Prelude.{int_le, nat_le}
@@ -41,4 +41,5 @@ least_value_least (seqs a n) (seq (more w ws)) h = (and_both _ _ (zero_le n) ref
 least_value_least (maps a b) (map_of no_entry) h = (refl, λ p. cc)
 least_value_least (maps a b) (map_of (entry k v es)) h = (refl, λ p. cc)
 least_value_least (enums (n ∷ ns)) (tag x) h = (least_from-among n ns, least_from-least n ns x h)
+least_value_least (enums []) (tag x) h = cc
 least_value_least s w h = cc

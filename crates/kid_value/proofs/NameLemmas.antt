@@ -1,9 +1,8 @@
 -- Names, their order, and sets of them.
-use Rattle.std.proofs.Common.{◌≡◌, ◌↔◌, ℕ, Bool, true, false, cond, List, [], ◌∷◌, Ordering, refl, sym, ap, subst, ◌∙◌, arith}
+use Rattle.std.proofs.Common.{◌≡◌, ℕ, Bool, true, false, cond, List, [], ◌∷◌, Ordering, refl, sym, ap, subst, ◌∙◌, arith}
 use Rattle.std.specs.Prelude.{◌||◌, ◌&&◌}
 use Rattle.std.specs.declared.cmp.Ordering.TheVariants.{Less, Equal, Greater}
 use Rattle.std.specs.Ordering.{ordering_reverse, nat_cmp, is_eq, is_lt}
-use Rattle.std.specs.Cmp.{IsTotalOrder}
 use Rattle.std.specs.Str.{bytes_eq}
 use Rattle.std.proofs.lemmas.Cmp.{nat_cmp_total, nat_list_cmp_total, tied_itself}
 use Rattle.std.proofs.lemmas.Bool.Decides.{nat_tests}
@@ -119,6 +118,7 @@ not_after-trans a b c f g p = by (name_cmp b c) refl
   where
     turned : name_cmp c a ≡ Less
     turned = nat_list_cmp_total.antisymm c a ∙ ap ordering_reverse p
+
     by : (o : Ordering) → name_cmp b c ≡ o → ⊥
     by Less e = f (nat_list_cmp_total.antisymm a b ∙ ap ordering_reverse (nat_list_cmp_total.trans b c a e turned))
     by Equal e = f (ap (name_cmp a) (name_cmp-equal b c e) ∙ p)
@@ -154,8 +154,8 @@ least_from-least m (n ∷ ns) x h =
     or_parts (bytes_eq x m) (is_among x (n ∷ ns)) h
     (λ s. subst (NotAfter (least_from m (n ∷ ns))) (sym (same_bytes x m s)) (least_from-first m (n ∷ ns)))
     (λ g. or_parts (bytes_eq x n) (is_among x ns) g
-      (λ s. subst (NotAfter (least_from (lesser m n) ns)) (sym (same_bytes x n s)) (not_after-trans (least_from (lesser m n) ns) (lesser m n) n (least_from-first (lesser m n) ns) (lesser-second m n)))
-      (λ k. least_from-least (lesser m n) ns x (or_second (bytes_eq x (lesser m n)) (is_among x ns) k)))
+    (λ s. subst (NotAfter (least_from (lesser m n) ns)) (sym (same_bytes x n s)) (not_after-trans (least_from (lesser m n) ns) (lesser m n) n (least_from-first (lesser m n) ns) (lesser-second m n)))
+    (λ k. least_from-least (lesser m n) ns x (or_second (bytes_eq x (lesser m n)) (is_among x ns) k)))
 
 among_first : (m : List ℕ) (ns : List (List ℕ)) → is_among m (m ∷ ns) ≡ true
 among_first m ns = or_first (bytes_eq m m) (is_among m ns) (bytes_itself m)

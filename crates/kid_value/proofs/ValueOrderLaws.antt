@@ -104,8 +104,11 @@ bits-cmp true true true z = refl
 same_tag : (s : Bool) (n : ℕ) (z : Ordering) → ordering_then (int_cmp (signed s (pos n)) (signed s (pos n))) z ≡ z
 same_tag s n z = ap (λ o. ordering_then o z) (tied_itself int_cmp_total (signed s (pos n)))
 
+pos-cmp : (m n : ℕ) → int_cmp (pos m) (pos n) ≡ nat_cmp m n
+pos-cmp m n = grind (arith, nat_tests)
+
 bytes-cmp : (s : Bool) (m n : ℕ) (z : Ordering) → ordering_then (int_cmp (signed s (pos m)) (signed s (pos n))) z ≡ ordering_then (turned s (nat_cmp m n)) z
-bytes-cmp s m n z = signed-cmp s (pos m) (pos n) z
+bytes-cmp s m n z = signed-cmp s (pos m) (pos n) z ∙ ap (λ o. ordering_then (turned s o) z) (pos-cmp m n)
 
 cmp_keys-name_key : (m n : List ℕ) (s : Bool) (r t : List ℤ) → cmp_keys (name_key m s r) (name_key n s t) ≡ ordering_then (turned s (name_cmp m n)) (cmp_keys r t)
 cmp_keys-name_key (x ∷ m) (y ∷ n) s r t = same_tag s 1 _ ∙ bytes-cmp s x y _ ∙ ap (ordering_then (turned s (nat_cmp x y))) (cmp_keys-name_key m n s r t) ∙ then-turned s (nat_cmp x y) (name_cmp m n) _
