@@ -1,7 +1,10 @@
 pub mod CanonicalLemmas
 pub mod CanonicalTests
+pub mod Choices
 pub mod CompareLemmas
 pub mod CountLemmas
+pub mod Listings
+pub mod SortListings
 pub mod EntryLemmas
 pub mod FoundLemmas
 pub mod JoinLemmas

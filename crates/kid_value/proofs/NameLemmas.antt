@@ -1,5 +1,5 @@
 -- Names, their order, and sets of them.
-use Rattle.std.proofs.Common.{◌≡◌, ℕ, Bool, true, false, cond, List, [], ◌∷◌, Ordering, refl, sym, ap, subst, ◌∙◌, arith}
+use Rattle.std.proofs.Common.{◌≡◌, ℕ, Bool, true, false, cond, List, [], ◌∷◌, Ordering, refl, sym, ap, subst, ◌∙◌, inl, inr, arith}
 use Rattle.std.specs.Prelude.{◌||◌, ◌&&◌}
 use Rattle.std.specs.declared.cmp.Ordering.TheVariants.{Less, Equal, Greater}
 use Rattle.std.specs.Ordering.{ordering_reverse, nat_cmp, is_eq, is_lt}
@@ -8,7 +8,8 @@ use Rattle.std.proofs.lemmas.Cmp.{nat_cmp_total, nat_list_cmp_total, tied_itself
 use Rattle.std.proofs.lemmas.Bool.Decides.{nat_tests}
 use Rattle.std.proofs.lemmas.Map.Text.{is_eq-slice_cmp}
 use Rattle.std.proofs.lemmas.Slice.Eq.{bytes_eq-Decides}
-use Rattle.kid_value.specs.NameSet.{name_cmp, is_among, are_among, put_name, put_name_by, names_union, least_from}
+use Rattle.kid_value.specs.NameSet.{name_cmp, is_among, are_among, names_ascend, put_name, put_name_by, names_union, least_from}
+use Rattle.kid_value.proofs.Listings.{Has, Distinct}
 
 pub byte_ties : (m n : ℕ) → nat_cmp m n ≡ Equal → m ≡ n
 byte_ties m n p = grind (arith, nat_tests)
@@ -28,14 +29,18 @@ name_cmp-itself n = tied_itself nat_list_cmp_total n
 pub name_cmp-equal : (m n : List ℕ) → name_cmp m n ≡ Equal → m ≡ n
 name_cmp-equal m n p = same_bytes m n (sym (is_eq-slice_cmp m n) ∙ ap is_eq p)
 
+and_parts : (b c : Bool) → (b && c) ≡ true → (b ≡ true) × (c ≡ true)
+and_parts true c p = (refl, p)
+and_parts false c p = cc
+
 pub or_parts : {A : Type 0} (b c : Bool) → (b || c) ≡ true → (b ≡ true → A) → (c ≡ true → A) → A
 or_parts true c p f g = f refl
 or_parts false c p f g = g p
 
-or_first : (b c : Bool) → b ≡ true → (b || c) ≡ true
+pub or_first : (b c : Bool) → b ≡ true → (b || c) ≡ true
 or_first b c p = ap (λ z. z || c) p
 
-or_second : (b c : Bool) → c ≡ true → (b || c) ≡ true
+pub or_second : (b c : Bool) → c ≡ true → (b || c) ≡ true
 or_second true c p = refl
 or_second false c p = p
 
@@ -170,3 +175,41 @@ least_from-among m (n ∷ ns) = by (is_lt (name_cmp n m)) (least_from-among m ns
         or_parts (bytes_eq (least_from m ns) m) (is_among (least_from m ns) ns) f
         (λ s. or_first (bytes_eq (least_from m ns) m) (is_among (least_from m ns) (n ∷ ns)) s)
         (λ s. or_second (bytes_eq (least_from m ns) m) (is_among (least_from m ns) (n ∷ ns)) (or_second (bytes_eq (least_from m ns) n) (is_among (least_from m ns) ns) s))
+
+-- a name among names, by the test and by what is equal to it
+pub has-among : (n : List ℕ) (ns : List (List ℕ)) → Has n ns → is_among n ns ≡ true
+has-among n [] h = absurd h
+has-among n (m ∷ ns) (inl e) = or_first (bytes_eq n m) (is_among n ns) (subst (λ z. bytes_eq n z ≡ true) e (bytes_itself n))
+has-among n (m ∷ ns) (inr h) = or_second (bytes_eq n m) (is_among n ns) (has-among n ns h)
+
+pub among-has : (n : List ℕ) (ns : List (List ℕ)) → is_among n ns ≡ true → Has n ns
+among-has n [] p = cc
+among-has n (m ∷ ns) p = or_parts {A = Has n (m ∷ ns)} (bytes_eq n m) (is_among n ns) p (λ e. inl (same_bytes n m e)) (λ q. inr (among-has n ns q))
+
+-- names that ascend are distinct
+less-test : (o : Ordering) → is_lt o ≡ true → o ≡ Less
+less-test Less p = refl
+less-test Equal p = cc
+less-test Greater p = cc
+
+first-before : (m n : List ℕ) (ns : List (List ℕ)) → names_ascend (m ∷ ns) ≡ true → Has n ns → name_cmp m n ≡ Less
+first-before m n [] p h = absurd h
+first-before m n (k ∷ ns) p h = by h (first-before k n ns)
+  where
+    less : name_cmp m k ≡ Less
+    less = less-test (name_cmp m k) (and_parts (is_lt (name_cmp m k)) (names_ascend (k ∷ ns)) p).0
+
+    rest : names_ascend (k ∷ ns) ≡ true
+    rest = (and_parts (is_lt (name_cmp m k)) (names_ascend (k ∷ ns)) p).1
+
+    by : Has n (k ∷ ns) → (names_ascend (k ∷ ns) ≡ true → Has n ns → name_cmp k n ≡ Less) → name_cmp m n ≡ Less
+    by (inl e) later = ap (name_cmp m) e ∙ less
+    by (inr g) later = nat_list_cmp_total.trans m k n less (later rest g)
+
+rest-ascends : (m : List ℕ) (ns : List (List ℕ)) → names_ascend (m ∷ ns) ≡ true → names_ascend ns ≡ true
+rest-ascends m [] p = refl
+rest-ascends m (n ∷ ns) p = (and_parts (is_lt (name_cmp m n)) (names_ascend (n ∷ ns)) p).1
+
+pub distinct_names : (ns : List (List ℕ)) → names_ascend ns ≡ true → Distinct ns
+distinct_names [] p = tt
+distinct_names (n ∷ ns) p = (λ h. let e : Less ≡ Equal = sym (first-before n n ns p h) ∙ name_cmp-itself n in cc, distinct_names ns (rest-ascends n ns p))

@@ -1,4 +1,6 @@
-ghost use Rattle.std.specs.Prelude.{◌≡◌, ◌*◌, ◌+◌, ◌^◌, ◌≤◌, min};
+ghost use Rattle.std.specs.Prelude.{◌≡◌, ◌*◌, ◌+◌, ◌^◌, ◌≤◌, min, true};
+ghost use Rattle.kid_value.specs.Counts.{Counts};
+ghost use Rattle.kid_value.specs.SortLimits.{is_bounded};
 ghost use Rattle.kid_value.specs.SortCount.{capped as capped_at, interval_count, capped_power, capped_sequences, count_of as counted};
 ghost use Rattle.kid_value.specs.SortView.{plain_sort};
 ghost use Rattle.kid_value.specs.ValueCount.{value_count};
@@ -9,6 +11,7 @@ use crate::sort::Sort;
 pub fn count_of(s: &Sort) -> u32
     ensures computed { result ≡ counted (plain_sort s.now) }
     ensures counts { result ≡ min (value_count (plain_sort s.now)) 65537 }
+    ensures values { is_bounded (plain_sort s.now) ≡ true → Counts (plain_sort s.now) result }
 {
     count(s)
 }
