@@ -10,6 +10,7 @@ pub mod LookupLemmas
 pub mod MapMeaning
 pub mod MapOrderLaws
 pub mod MemberLemmas
+pub mod NameLemmas
 pub mod PlaceLemmas
 pub mod PutLemmas
 pub mod RowCanonical

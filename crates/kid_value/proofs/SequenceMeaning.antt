@@ -16,12 +16,14 @@ use Rattle.kid_value.specs.Rows.Set as set_rows
 use Rattle.kid_value.specs.SequenceLaws.{IsPrefix, SequenceLaws}
 use Rattle.kid_value.specs.SequenceOrder.{IsLexicallyBefore}
 use Rattle.kid_value.specs.SetLaws.{IsSubset}
-use Rattle.kid_value.specs.ValueOrder.{seq_cmp, Before}
+use Rattle.kid_value.specs.ValueOrder.{value_cmp, seq_cmp, Before}
 use Rattle.kid_value.specs.ValueSet.{is_member, put, set_of}
 use Rattle.kid_value.proofs.MemberLemmas.{or_right, is_member-append, member-all_pass, set_of-snoc, total-append, total-not_negative}
 use Rattle.kid_value.proofs.RowLemmas.{items_row, row_items}
 use Rattle.kid_value.proofs.RowMeaning.{is_member-set_of, is_prefix-append, append-is_prefix}
-use Rattle.kid_value.proofs.SequenceOrderLaws.{less-IsLexicallyBefore}
+use Rattle.kid_value.proofs.SequenceOrderLaws.{seq_cmp-items, less-IsLexicallyBefore}
+use Rattle.kid_value.proofs.ValueOrderLaws.{value_cmp-equal}
+use Rattle.kid_value.proofs.ValueSetLaws.{value_cmp-itself}
 
 same_sequences : (v w : PlainValue) → IsSequence v → IsSequence w → items_of v ≡ items_of w → v ≡ w
 same_sequences (seq vs) (seq ws) i j e = ap seq (sym (row_items vs) ∙ ap row e ∙ row_items ws)
@@ -123,8 +125,8 @@ rest_items (seq vs) (seq ws) us i j e = items_row (drop (length (items vs)) (ite
 rest_items (seq vs) w us i j e = absurd j
 rest_items v w us i j e = absurd i
 
-before_sequence : (v w : PlainValue) → IsSequence v → IsSequence w → IsLexicallyBefore (items_of v) (items_of w) → Before v w
-before_sequence (seq vs) (seq ws) i j l = sym (λ k. seq_cmp (row_items vs k) (row_items ws k)) ∙ less-IsLexicallyBefore (items vs) (items ws) l
+before_sequence : (v w : PlainValue) → IsSequence v → IsSequence w → IsLexicallyBefore Before (items_of v) (items_of w) → Before v w
+before_sequence (seq vs) (seq ws) i j l = sym (λ k. seq_cmp (row_items vs k) (row_items ws k)) ∙ seq_cmp-items (items vs) (items ws) ∙ less-IsLexicallyBefore value_cmp value_cmp-equal value_cmp-itself (items vs) (items ws) l
 before_sequence (seq vs) w i j l = absurd j
 before_sequence v w i j l = absurd i
 

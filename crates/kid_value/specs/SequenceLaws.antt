@@ -34,4 +34,4 @@ pub record SequenceLaws : Type 0 where
   pub at_prefix : (v w d : PlainValue) (i : ℤ) → IsPrefix v w → pos 1 ≤ℤ i → i ≤ℤ number_of (rows.len v) → rows.at w (int i) d ≡ rows.at v (int i) d
   pub rest : (v w : PlainValue) (us : List PlainValue) → IsSequence v → IsSequence w → items_of w ≡ items_of v ++ us → items_of (rows.rest w (rows.len v)) ≡ us
   -- the order is lexicographic
-  pub before : (v w : PlainValue) → IsSequence v → IsSequence w → IsLexicallyBefore (items_of v) (items_of w) → Before v w
+  pub before : (v w : PlainValue) → IsSequence v → IsSequence w → IsLexicallyBefore Before (items_of v) (items_of w) → Before v w
