@@ -22,6 +22,7 @@ pub mod SetLaws
 pub mod SetMeaning
 pub mod SetOrderLaws
 pub mod SortLemmas
+pub mod SortMeaning
 pub mod StrictOrderLaws
 pub mod ValueOrderLaws
 pub mod ValueSetLaws

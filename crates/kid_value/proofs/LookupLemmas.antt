@@ -2,14 +2,15 @@
 use Rattle.std.proofs.Common.{◌≡◌, Bool, true, false, cond, List, [], ◌∷◌, map, Option, Some, None, refl, sym, ap, ◌∙◌, inl, inr}
 use Rattle.std.specs.List.{list_all}
 use Rattle.std.specs.Ordering.{is_eq}
-use Rattle.std.specs.Prelude.{◌&&◌, ◌||◌, not, filter, is_some}
+use Rattle.std.specs.Prelude.{◌||◌, not, filter, is_some}
 use Rattle.kid_value.specs.PlainValue.{PlainValue}
 use Rattle.kid_value.specs.ValueMap.{keys, lookup}
 use Rattle.kid_value.specs.ValueSet.{value_eq, is_member, AllAfter, Ascends}
+use Rattle.kid_value.proofs.MapOrderLaws.{lookup-first}
 use Rattle.kid_value.proofs.MemberLemmas.{is_member-first, is_member-later}
 use Rattle.kid_value.proofs.RowMeaning.{is_member-keys}
 use Rattle.kid_value.proofs.SortLemmas.{and_parts, and_both}
-use Rattle.kid_value.proofs.ValueSetLaws.{or_cases, value_eq-itself, value_eq-true, value_eq-comm, Before-member}
+use Rattle.kid_value.proofs.ValueSetLaws.{or_cases, value_eq-true, value_eq-comm, Before-member}
 
 pub some_same : (v w : PlainValue) → Some v ≡ Some w → v ≡ w
 some_same v w e = cc
@@ -18,12 +19,9 @@ pub none_some : (o : Option PlainValue) (v : PlainValue) → o ≡ Some v → o 
 none_some (Some w) v p q = cc
 none_some None v p q = cc
 
-pub lookup-first : (e : PlainValue × PlainValue) (es : List (PlainValue × PlainValue)) → lookup e.0 (e ∷ es) ≡ Some e.1
-lookup-first e es = ap (λ c. cond c (Some e.1) (lookup e.0 es)) (value_eq-itself e.0)
-
 -- what later entries have is not at the first key
-pub lookup-later : (k v : PlainValue) (e : PlainValue × PlainValue) (es : List (PlainValue × PlainValue)) → AllAfter e.0 (keys es) → lookup k es ≡ Some v → lookup k (e ∷ es) ≡ Some v
-lookup-later k v e es a q =
+pub lookup-tail : (k v : PlainValue) (e : PlainValue × PlainValue) (es : List (PlainValue × PlainValue)) → AllAfter e.0 (keys es) → lookup k es ≡ Some v → lookup k (e ∷ es) ≡ Some v
+lookup-tail k v e es a q =
     let there : is_member k (keys es) ≡ true = is_member-keys k es ∙ ap is_some q in
     let not_first : value_eq k e.0 ≡ false = value_eq-comm k e.0 ∙ ap is_eq (Before-member e.0 k (keys es) a there) in
     ap (λ c. cond c (Some e.1) (lookup k es)) not_first ∙ q
@@ -40,7 +38,7 @@ list_all-lookup p k v (f ∷ es) h e =
 
 pub lookup-list_all : (p : PlainValue × PlainValue → Bool) (es : List (PlainValue × PlainValue)) → Ascends (keys es) → ((k v : PlainValue) → lookup k es ≡ Some v → p (k, v) ≡ true) → list_all p es ≡ true
 lookup-list_all p [] a h = refl
-lookup-list_all p (e ∷ es) a h = and_both (p e) (list_all p es) (h e.0 e.1 (lookup-first e es)) (lookup-list_all p es a.1 (λ k v q. h k v (lookup-later k v e es a.0 q)))
+lookup-list_all p (e ∷ es) a h = and_both (p e) (list_all p es) (h e.0 e.1 (lookup-first e es)) (lookup-list_all p es a.1 (λ k v q. h k v (lookup-tail k v e es a.0 q)))
 
 -- the values that a map has are those that look-ups find
 pub lookup-value : (k v : PlainValue) (es : List (PlainValue × PlainValue)) → lookup k es ≡ Some v → is_member v (map (λ e. e.1) es) ≡ true
@@ -56,7 +54,7 @@ value-lookup v [] a m = cc
 value-lookup v (e ∷ es) a m =
     elim (or_cases (value_eq v e.1) (is_member v (map (λ e. e.1) es)) m) [
       | inl q ↦ (e.0, lookup-first e es ∙ ap (λ z. Some z) (sym (value_eq-true v e.1 q)))
-      | inr q ↦ let r = value-lookup v es a.1 q in (r.0, lookup-later r.0 v e es a.0 r.1)
+      | inr q ↦ let r = value-lookup v es a.1 q in (r.0, lookup-tail r.0 v e es a.0 r.1)
     ]
 
 -- the keys but for one

@@ -1,6 +1,5 @@
 -- Maps by what they have at each key.
-use Rattle.std.proofs.Common.{◌≡◌, ◌↔◌, true, false, cond, List, map, Ordering, Option, Some, None, refl, sym, ap, ◌∙◌}
-use Rattle.std.specs.List.{list_all}
+use Rattle.std.proofs.Common.{◌≡◌, ◌↔◌, true, cond, List, map, Ordering, Option, Some, None, refl, sym, ap, ◌∙◌}
 use Rattle.std.specs.Option.{option_map}
 use Rattle.std.specs.Ordering.{ordering_reverse}
 use Rattle.std.specs.Prelude.{not, filter, unwrap_or}
@@ -10,7 +9,7 @@ use Rattle.kid_value.specs.Contents.{IsSet, IsMap, has, value_at}
 use Rattle.kid_value.specs.Entries.{IsMapOf, MapsHoldValues}
 use Rattle.kid_value.specs.MapLaws.{IsSubmap, Fits, MapLaws}
 use Rattle.kid_value.specs.MapOrder.{IsLowerAt}
-use Rattle.kid_value.specs.PlainValue.{PlainValue, set, map_of, items, row, entries, table}
+use Rattle.kid_value.specs.PlainValue.{PlainValue, set, map_of, items, entries, table}
 use Rattle.kid_value.specs.Rows.Kinds.{set_from, map_from}
 use Rattle.kid_value.specs.Rows.Map as rows
 use Rattle.kid_value.specs.Rows.Map.{has_value, has_value_in, cut_down}

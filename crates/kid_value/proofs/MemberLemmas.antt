@@ -2,8 +2,9 @@
 use Rattle.std.proofs.Common.{◌≡◌, ℕ, ◌+◌, zero, suc, ℤ, pos, negsuc, ◌+ℤ◌, ◌≤ℤ◌, Bool, true, false, cond, List, [], ◌∷◌, ◌++◌, Ordering, length, refl, sym, ap, ◌∙◌, subst, arith}
 use Rattle.std.specs.declared.cmp.Ordering.TheVariants.{Less, Equal, Greater}
 use Rattle.std.specs.Int.{int_gap}
+use Rattle.std.specs.List.{list_all}
 use Rattle.std.specs.Ordering.{is_eq}
-use Rattle.std.specs.Prelude.{◌||◌, ◌&&◌, int_le, int_lt}
+use Rattle.std.specs.Prelude.{not, ◌||◌, ◌&&◌, filter, int_le, int_lt}
 use Rattle.std.proofs.Math.IntN.{+ℤ_assoc}
 use Rattle.std.proofs.lemmas.Int.{ints as int_rules}
 use Rattle.kid_value.specs.Members.{is_between}
@@ -13,24 +14,15 @@ use Rattle.kid_value.specs.Rows.Set.{numbers}
 use Rattle.kid_value.specs.SortCount.{interval_count}
 use Rattle.kid_value.specs.ValueOrder.{value_cmp, Before}
 use Rattle.kid_value.specs.ValueSet.{value_eq, is_member, all_pass, put, put_by, set_of, Ascends}
-use Rattle.kid_value.proofs.RowMeaning.{is_member-numbers, is_member-set_of}
+use Rattle.kid_value.proofs.RowMeaning.{or_false, is_member-numbers, is_member-set_of}
+use Rattle.kid_value.proofs.SetLaws.{or_comm}
 use Rattle.kid_value.proofs.SortLemmas.{and_parts, and_both}
 use Rattle.kid_value.proofs.ValueOrderLaws.{value_cmp-equal}
-use Rattle.kid_value.proofs.ValueSetLaws.{value_cmp-itself, value_eq-itself, value_eq-true, is_member-after, is_member-put, AllAfter-before, Before-greater, Before-member, Ascends-put, Ascends-union, same_members}
+use Rattle.kid_value.proofs.ValueSetLaws.{value_cmp-itself, value_eq-itself, value_eq-true, is_member-after, is_member-put, is_member-filter, AllAfter-before, Before-greater, Before-member, Ascends-put, Ascends-filter, Ascends-union, same_members}
 
 pub or_right : (b c : Bool) → c ≡ true → (b || c) ≡ true
 or_right true c p = refl
 or_right false c p = p
-
-or_false : (b : Bool) → (b || false) ≡ b
-or_false true = refl
-or_false false = refl
-
-or_comm : (b c : Bool) → (b || c) ≡ (c || b)
-or_comm true true = refl
-or_comm true false = refl
-or_comm false true = refl
-or_comm false false = refl
 
 pub is_member-first : (x : PlainValue) (xs : List PlainValue) → is_member x (x ∷ xs) ≡ true
 is_member-first x xs = ap (λ c. c || is_member x xs) (value_eq-itself x)
@@ -60,12 +52,33 @@ pub member-all_pass : (p : PlainValue → Bool) (vs : List PlainValue) → ((x :
 member-all_pass p [] h = refl
 member-all_pass p (v ∷ vs) h = and_both (p v) (all_pass p vs) (h v (is_member-first v vs)) (member-all_pass p vs (λ x m. h x (is_member-later x v vs m)))
 
+same_all : (p : PlainValue → Bool) (vs : List PlainValue) → list_all p vs ≡ all_pass p vs
+same_all p [] = refl
+same_all p (v ∷ vs) = ap (λ b. p v && b) (same_all p vs)
+
+pub list_all-member : (p : PlainValue → Bool) (x : PlainValue) (vs : List PlainValue) → list_all p vs ≡ true → is_member x vs ≡ true → p x ≡ true
+list_all-member p x vs h m = all_pass-member p x vs (sym (same_all p vs) ∙ h) m
+
 -- the set of a list with one more value
 pub set_of-snoc : (vs : List PlainValue) (x : PlainValue) → set_of (vs ++ x ∷ []) ≡ put x (set_of vs)
 set_of-snoc vs x =
     same_members (set_of (vs ++ x ∷ [])) (put x (set_of vs)) (Ascends-union (vs ++ x ∷ []) [] tt) (Ascends-put x (set_of vs) (Ascends-union vs [] tt))
     (λ y. is_member-set_of y (vs ++ x ∷ []) ∙ is_member-append y vs (x ∷ []) ∙ ap (λ b. is_member y vs || b) (or_false (value_eq y x)) ∙ or_comm (is_member y vs) (value_eq y x)
     ∙ ap (λ b. value_eq y x || b) (sym (is_member-set_of y vs)) ∙ sym (is_member-put y x (set_of vs)))
+
+-- a member that was taken away and put back
+pub put-without : (x : PlainValue) (vs : List PlainValue) → Ascends vs → is_member x vs ≡ true → put x (filter (λ y. not (value_eq y x)) vs) ≡ vs
+put-without x vs a m =
+    same_members (put x (filter (λ y. not (value_eq y x)) vs)) vs (Ascends-put x (filter (λ y. not (value_eq y x)) vs) (Ascends-filter (λ y. not (value_eq y x)) vs a)) a
+    (λ y. is_member-put y x (filter (λ y. not (value_eq y x)) vs) ∙ ap (λ b. value_eq y x || b) (is_member-filter (λ y. not (value_eq y x)) y vs) ∙ by y (value_eq y x) refl)
+  where
+    back : (c : Bool) → (c && true) ≡ c
+    back true = refl
+    back false = refl
+
+    by : (y : PlainValue) (b : Bool) → value_eq y x ≡ b → (b || (is_member y vs && not b)) ≡ is_member y vs
+    by y true e = sym (ap (λ z. is_member z vs) (value_eq-true y x e) ∙ m)
+    by y false e = back (is_member y vs)
 
 pub length-put : (x : PlainValue) (ys : List PlainValue) → is_member x ys ≡ false → length (put x ys) ≡ length ys + 1
 length-put x [] p = refl

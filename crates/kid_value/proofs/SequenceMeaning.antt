@@ -5,7 +5,6 @@ use Rattle.std.proofs.Math.Seq.{drop-append_seam}
 use Rattle.std.proofs.lemmas.Int.{ints as int_rules}
 use Rattle.std.proofs.lemmas.List.{get_or_append_left, get_or_push, length-append}
 use Rattle.kid_value.specs.Contents.{IsSequence, has}
-use Rattle.kid_value.specs.PlainValue as value
 use Rattle.kid_value.specs.PlainValue.{PlainValue, int, seq, row, items}
 use Rattle.kid_value.specs.Rows.Kinds.{set_from}
 use Rattle.kid_value.specs.Rows.Number.{add}

@@ -1,11 +1,10 @@
 -- Sets by what they have.
 use Rattle.std.proofs.Common.{◌≡◌, ◌↔◌, pos, ◌+ℤ◌, ◌≤ℤ◌, Bool, true, false, List, ◌∷◌, map, length, refl, sym, ap, ◌∙◌, arith}
-use Rattle.std.specs.Prelude.{not, ◌||◌, ◌&&◌, is_some}
+use Rattle.std.specs.Prelude.{not, ◌||◌, ◌&&◌, filter, is_some}
 use Rattle.std.proofs.lemmas.Int.{ints as int_rules}
 use Rattle.kid_value.specs.Canonical.{IsCanonical}
 use Rattle.kid_value.specs.Contents.{IsSet, IsSequence, IsMap, has, value_at, IsWithin}
 use Rattle.kid_value.specs.Members.{IsSetOf, is_between, SetsHoldMembers}
-use Rattle.kid_value.specs.PlainValue as value
 use Rattle.kid_value.specs.PlainValue.{PlainValue, set, seq, map_of, none, more, row, items, entries}
 use Rattle.kid_value.specs.Rows.Kinds.{set_from}
 use Rattle.kid_value.specs.Rows.Map as map_rows
@@ -19,7 +18,7 @@ use Rattle.kid_value.specs.ValueMap.{keys}
 use Rattle.kid_value.specs.ValueOrder.{set_cmp, Before}
 use Rattle.kid_value.specs.ValueSet as sets
 use Rattle.kid_value.specs.ValueSet.{value_eq, is_member}
-use Rattle.kid_value.proofs.MemberLemmas.{is_member-first, all_pass-member, member-all_pass, length-put, length-within, total-within, numbers-between}
+use Rattle.kid_value.proofs.MemberLemmas.{is_member-first, all_pass-member, member-all_pass, put-without, length-put, length-within, total-within, numbers-between}
 use Rattle.kid_value.proofs.RowLemmas.{items_row, row_items}
 use Rattle.kid_value.proofs.RowMeaning.{is_member-set_of, is_member-keys}
 use Rattle.kid_value.proofs.SetLaws.{total-put}
@@ -84,6 +83,15 @@ same_sets (set vs) (set ws) i j c d h = ap set (sym (row_items vs) ∙ ap row (s
 same_sets (set vs) t i j c d h = absurd j
 same_sets s t i j c d h = absurd i
 
+no_members : (s : PlainValue) → IsSet s → ((x : PlainValue) → has x s ≡ false) → s ≡ set none
+no_members (set none) i h = refl
+no_members (set (more v vs)) i h = let e : true ≡ false = sym (is_member-first v (items vs)) ∙ h v in cc
+no_members s i h = absurd i
+
+put_back : (x s : PlainValue) → IsSet s → IsCanonical s → has x s ≡ true → rows.with x (rows.without x s) ≡ s
+put_back x (set vs) i c m = ap (λ z. set_from (sets.put x z)) (items_row (filter (λ y. not (value_eq y x)) (items vs))) ∙ ap set_from (put-without x (items vs) c.0 m) ∙ ap set (row_items vs)
+put_back x s i c m = absurd i
+
 member_told : (x s : PlainValue) → truth_of (rows.member x s) ≡ has x s
 member_told x (set vs) = refl
 member_told x s = refl
@@ -93,10 +101,10 @@ subset_told (set vs) (set ws) i j = (λ h x m. all_pass-member (λ y. is_member 
 subset_told (set vs) t i j = absurd j
 subset_told s t i j = absurd i
 
-least_there : (s d x : PlainValue) → has x s ≡ true → has (rows.least s d) s ≡ true
-least_there (set none) d x h = cc
-least_there (set (more v vs)) d x h = is_member-first v (items vs)
-least_there s d x h = cc
+least_there : (s d : PlainValue) → IsSet s → (s ≡ set none → ⊥) → has (rows.least s d) s ≡ true
+least_there (set none) d i h = absurd (h refl)
+least_there (set (more v vs)) d i h = is_member-first v (items vs)
+least_there s d i h = absurd i
 
 least_first : (s d x : PlainValue) → IsCanonical s → Before x (rows.least s d) → has x s ≡ false
 least_first (set none) d x c b = refl
@@ -131,6 +139,8 @@ pub laws : SetLaws
 laws =
     record {
       same = same_sets;
+      empty = no_members;
+      with_without = put_back;
       member = member_told;
       subset = subset_told;
       least = least_there;

@@ -1,5 +1,5 @@
 -- The laws of maps.
-use Rattle.std.specs.Prelude.{◌≡◌, ◌↔◌, true, Option, Some, unwrap_or}
+use Rattle.std.specs.Prelude.{◌≡◌, ◌↔◌, true, Some, unwrap_or}
 use Rattle.kid_value.specs.Canonical.{IsCanonical}
 use Rattle.kid_value.specs.Contents.{IsSet, IsMap, has, value_at}
 use Rattle.kid_value.specs.MapOrder.{IsLowerAt}

@@ -14,10 +14,13 @@ IsSubset s t = truth_of (rows.subset s t) ≡ true
 pub record SetLaws : Type 0 where
   -- two canonical sets of the same members are one
   pub same : (s t : PlainValue) → IsSet s → IsSet t → IsCanonical s → IsCanonical t → ((x : PlainValue) → has x s ≡ has x t) → s ≡ t
+  -- a set without members is the empty one, and a member that was taken away and put back changes nothing
+  pub empty : (s : PlainValue) → IsSet s → ((x : PlainValue) → has x s ≡ false) → s ≡ value.set none
+  pub with_without : (x s : PlainValue) → IsSet s → IsCanonical s → has x s ≡ true → rows.with x (rows.without x s) ≡ s
   pub member : (x s : PlainValue) → truth_of (rows.member x s) ≡ has x s
   pub subset : (s t : PlainValue) → IsSet s → IsSet t → IsSubset s t ↔ IsWithin s t
-  -- the least member is one, and none is before it
-  pub least : (s d x : PlainValue) → has x s ≡ true → has (rows.least s d) s ≡ true
+  -- the least member of a set that is not empty is one, and none is before it
+  pub least : (s d : PlainValue) → IsSet s → (s ≡ value.set none → ⊥) → has (rows.least s d) s ≡ true
   pub least_first : (s d x : PlainValue) → IsCanonical s → Before x (rows.least s d) → has x s ≡ false
   -- card counts the members
   pub card_none : rows.card (value.set none) ≡ value.int (pos 0)

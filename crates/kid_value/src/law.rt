@@ -4,6 +4,7 @@ ghost use Rattle.kid_value.specs.MapLaws.{MapLaws};
 ghost use Rattle.kid_value.specs.Members.{SetsHoldMembers};
 ghost use Rattle.kid_value.specs.SequenceLaws.{SequenceLaws};
 ghost use Rattle.kid_value.specs.SetLaws.{SetLaws};
+ghost use Rattle.kid_value.specs.SortLaws.{SortLaws};
 ghost use Rattle.kid_value.specs.WordLaws.{WordLaws};
 
 /// An operator on sets, sequences or maps that makes a set gives that of just the values of its
@@ -44,4 +45,10 @@ pub fn map_laws()
 /// word's bits; `wor` has the bits of either word, `wand` of both, `wnot` of the first alone.
 pub fn word_laws()
     ensures { WordLaws }
+{}
+
+/// What the operators on sets, sequences and maps make of values of their sorts is of its sort, and
+/// so are the members of a set and what a map has at a key.
+pub fn sort_laws()
+    ensures { SortLaws }
 {}
