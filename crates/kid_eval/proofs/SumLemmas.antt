@@ -1,8 +1,8 @@
 -- Where the sums of an application stay small, so do those of the operator that it has.
 use Rattle.std.proofs.Common.{◌≡◌, true, [], ◌∷◌}
+use Rattle.kid_value.specs.Contents.{IsSet, IsSequence}
 use Rattle.kid_value.specs.PlainValue.{PlainValue, int, bool, pair, set, seq, map_of, tag}
 use Rattle.kid_term.specs.Small.{members_small, items_small}
-use Rattle.kid_ops.specs.Kinds.{IsSet, IsSequence}
 use Rattle.kid_ops.specs.Sums.{HasSmallSums}
 
 pub small_members : (v : PlainValue) → IsSet v → members_small (v ∷ []) ≡ true → HasSmallSums v

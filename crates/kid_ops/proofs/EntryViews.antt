@@ -9,6 +9,8 @@ use Rattle.kid_value.specs.ValueMap.{keys, lookup}
 use Rattle.kid_value.specs.ValueSet.{AllAfter, Ascends, value_eq}
 use Rattle.kid_value.specs.ValueView.{plain, plain_entry}
 use Rattle.kid_value.specs.declared.value.Value.{Value}
+use Rattle.kid_value.proofs.LookupLemmas.{keys-dropped}
+use Rattle.kid_value.proofs.RowCanonical.{keys-filled, keys-narrowed}
 use Rattle.kid_value.proofs.ValueSetLaws.{Ascends-filter}
 use Rattle.kid_ops.proofs.MergeLemmas.{drop_next}
 use Rattle.kid_ops.specs.Parts.{key_of, held_by, without_key, filled, narrowed}
@@ -24,24 +26,6 @@ keys-key_of (e ∷ es) = ap (λ z. key_of e ∷ z) (keys-key_of es)
 pub cut_down_inter : (v w : PlainValue) → cut_down v (Some w) ≡ inter v w
 cut_down_inter (set vs) (set ws) = refl
 cut_down_inter v w = refl
-
--- the keys of what the functions make of a map
-keys-without : (x : PlainValue) (es : List (PlainValue × PlainValue)) → keys (without_key x es) ≡ filter (λ k. not (value_eq k x)) (keys es)
-keys-without x [] = refl
-keys-without x (e ∷ es) = by_cases (value_eq e.0 x) (keys-without x es)
-  where
-    by_cases : (b : Bool) → keys (without_key x es) ≡ filter (λ k. not (value_eq k x)) (keys es)
-        → keys (cond (not b) (e ∷ without_key x es) (without_key x es)) ≡ cond (not b) (e.0 ∷ filter (λ k. not (value_eq k x)) (keys es)) (filter (λ k. not (value_eq k x)) (keys es))
-    by_cases true h = h
-    by_cases false h = ap (λ z. e.0 ∷ z) h
-
-keys-filled : (x : PlainValue) (vs : List PlainValue) → keys (filled x vs) ≡ vs
-keys-filled x [] = refl
-keys-filled x (v ∷ vs) = ap (λ z. v ∷ z) (keys-filled x vs)
-
-keys-narrowed : (n es : List (PlainValue × PlainValue)) → keys (narrowed n es) ≡ keys es
-keys-narrowed n [] = refl
-keys-narrowed n (e ∷ es) = ap (λ z. e.0 ∷ z) (keys-narrowed n es)
 
 -- an entry that is put after a front of entries whose keys ascend
 AllAfter-front : (x : PlainValue) (ks : List PlainValue) (k : PlainValue) (rest : List PlainValue) → AllAfter x (ks ++ k ∷ rest) → AllAfter x (ks ++ k ∷ [])
@@ -74,7 +58,7 @@ module _ (es : List (Value × Value)) (i : ℕ) (e : Value × Value) (done : Lis
       let more : List (PlainValue × PlainValue) = without_key x (map plain_entry (drop (i + 1) es)) in
       let s : without_key x (map plain_entry (drop i es)) ≡ plain_entry e ∷ more = ap (without_key x) next ∙ ap (λ b. cond (not b) (plain_entry e ∷ more) more) p in
       pushable done (plain e.0) (plain e.1) more (without_key x (map plain_entry es)) (ap (λ z. done ++ z) (sym s) ∙ h)
-      (subst Ascends (sym (keys-without x (map plain_entry es))) (Ascends-filter (λ k. not (value_eq k x)) (keys (map plain_entry es)) a))
+      (subst Ascends (sym (keys-dropped x (map plain_entry es))) (Ascends-filter (λ k. not (value_eq k x)) (keys (map plain_entry es)) a))
 
   pub narrowed-pushes : (n : List (PlainValue × PlainValue)) → done ++ narrowed n (map plain_entry (drop i es)) ≡ narrowed n (map plain_entry es) → Ascends (keys done ++ plain e.0 ∷ [])
   narrowed-pushes n h =

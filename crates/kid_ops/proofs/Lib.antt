@@ -1,8 +1,6 @@
 pub mod BitLemmas
-pub mod EntryLaws
 pub mod EntryViews
 pub mod ItemLemmas
-pub mod MemberLaws
 pub mod MergeLemmas
 pub mod NumberLemmas
 pub mod RowItems

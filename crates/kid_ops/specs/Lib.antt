@@ -1,9 +1,7 @@
 pub mod Bits
 pub mod Chosen
-pub mod Entries
 pub mod Items
 pub mod Kinds
-pub mod Members
 pub mod Merged
 pub mod Parts
 pub mod RowItems

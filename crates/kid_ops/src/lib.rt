@@ -1,8 +1,6 @@
-//! The operators on values, one function for each, in a room for each group; and which values are
-//! in the sets and maps that they make.
+//! The operators on values, one function for each, in a room for each group.
 #![tactic(auto)]
 
-pub mod law;
 pub mod logic;
 pub mod map;
 mod merge;

@@ -1,12 +1,12 @@
 //! The operators on sequences, whose places count from 1. Where an argument is of another kind
 //! than the operator takes, the answer is false.
 ghost use Rattle.std.specs.Prelude.{◌≡◌, ◌++◌, IfOk, OnOk, map, drop};
+ghost use Rattle.kid_value.specs.Contents.{IsSequence};
 ghost use Rattle.kid_value.specs.PlainValue.{int, bool};
 ghost use Rattle.kid_value.specs.Rows.Kinds.{natural as natural_of};
 ghost use Rattle.kid_value.specs.Rows.Seq as rows;
 ghost use Rattle.kid_value.specs.ValueView.{plain};
 ghost use Rattle.kid_ops.specs.Items.{item_from_one};
-ghost use Rattle.kid_ops.specs.Kinds.{IsSequence};
 ghost use Rattle.kid_ops.specs.Sums.{HasSmallSums};
 
 use crate::set::{count, members_among, total_of};

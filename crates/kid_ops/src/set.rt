@@ -1,6 +1,7 @@
 //! The operators on sets. Where an argument is of another kind than the operator takes, the
 //! answer is false.
 ghost use Rattle.std.specs.Prelude.{◌≡◌, ◌+ℤ◌, IfOk, length, map, pos, true};
+ghost use Rattle.kid_value.specs.Contents.{IsSet};
 ghost use Rattle.kid_value.specs.SortLimits.{in_limits};
 ghost use Rattle.kid_value.specs.SortCount.{interval_count};
 ghost use Rattle.kid_value.specs.PlainValue.{int, bool};
@@ -10,7 +11,6 @@ ghost use Rattle.kid_value.specs.Rows.Sums.{sums_small};
 ghost use Rattle.kid_value.specs.ValueSet as lists;
 ghost use Rattle.kid_value.specs.ValueSet.{Ascends, set_of};
 ghost use Rattle.kid_value.specs.ValueView.{plain};
-ghost use Rattle.kid_ops.specs.Kinds.{IsSet};
 ghost use Rattle.kid_ops.specs.Chosen.{chosen};
 ghost use Rattle.kid_ops.specs.Sums.{HasSmallSums};
 

@@ -3,6 +3,7 @@
 //! the operator takes, the answer is false.
 ghost use Rattle.std.specs.Prelude.{◌≡◌, ◌-ℤ◌, ◌^◌, ◌<◌, ◌≤◌, IfOk, MatchOption, None, Some, length, map, pos, set, true, unwrap_or};
 ghost use Rattle.std.specs.List.{range_with_len};
+ghost use Rattle.kid_value.specs.Contents.{IsSet};
 ghost use Rattle.kid_value.specs.SortLimits.{in_limits};
 ghost use Rattle.kid_value.specs.PlainValue.{int, bool};
 ghost use Rattle.kid_value.specs.Rows.Kinds.{natural as natural_of};
@@ -13,7 +14,7 @@ ghost use Rattle.kid_value.specs.ValueView.{plain};
 ghost use Rattle.kid_value.specs.ValueSet.{is_member};
 ghost use Rattle.kid_ops.specs.Bits.{first_place};
 ghost use Rattle.kid_ops.specs.RowItems.{value_of_row, row_with};
-ghost use Rattle.kid_ops.specs.Kinds.{IsSet, item_count};
+ghost use Rattle.kid_ops.specs.Kinds.{item_count};
 
 use crate::seq::{copied, copy_onto, natural};
 use crate::set::first_or;

@@ -17,7 +17,7 @@ lookup-after : (k : PlainValue) (es : List (PlainValue × PlainValue)) → AllAf
 lookup-after k [] a = refl
 lookup-after k (e ∷ es) a = rw (a.0) (lookup-after k es a.1)
 
-lookup-first : (e : PlainValue × PlainValue) (es : List (PlainValue × PlainValue)) → lookup e.0 (e ∷ es) ≡ Some e.1
+pub lookup-first : (e : PlainValue × PlainValue) (es : List (PlainValue × PlainValue)) → lookup e.0 (e ∷ es) ≡ Some e.1
 lookup-first e es = ap (λ c. cond c (Some e.1) (lookup e.0 es)) (value_eq-itself e.0)
 
 lookup-later : (k : PlainValue) (e : PlainValue × PlainValue) (es : List (PlainValue × PlainValue)) → value_eq k e.0 ≡ false → lookup k (e ∷ es) ≡ lookup k es

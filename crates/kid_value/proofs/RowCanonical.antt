@@ -228,7 +228,7 @@ IsCanonical-drop (value.map_of m) x c =
     IsCanonical-map_from (filter (λ e. not (value_eq e.0 x)) (entries m)) (Ascends-kept (λ e. not (value_eq e.0 x)) (entries m) c.0) (EachEntry-filter (λ e. not (value_eq e.0 x)) (entries m) (each_entry m c.1))
 IsCanonical-drop v x c = tt
 
-keys-filled : (x : PlainValue) (vs : List PlainValue) → keys (map (λ v. (v, x)) vs) ≡ vs
+pub keys-filled : (x : PlainValue) (vs : List PlainValue) → keys (map (λ v. (v, x)) vs) ≡ vs
 keys-filled x [] = refl
 keys-filled x (v ∷ vs) = ap (λ z. v ∷ z) (keys-filled x vs)
 
@@ -250,7 +250,7 @@ module _ (n : List (PlainValue × PlainValue)) where
   abbrev narrowed : PlainValue × PlainValue → PlainValue × PlainValue
   narrowed e = (e.0, cut_down e.1 (lookup e.0 n))
 
-  keys-narrowed : (es : List (PlainValue × PlainValue)) → keys (map narrowed es) ≡ keys es
+  pub keys-narrowed : (es : List (PlainValue × PlainValue)) → keys (map narrowed es) ≡ keys es
   keys-narrowed [] = refl
   keys-narrowed (e ∷ es) = ap (λ z. e.0 ∷ z) (keys-narrowed es)
 
@@ -264,11 +264,11 @@ IsCanonical-narrow (value.map_of m) (value.map_of n) c =
 IsCanonical-narrow v w c = tt
 
 -- numbers that stand for the bits of a word
-key_before : (lo : ℤ) (i j : ℕ) → i < j → Before (key_at lo i) (key_at lo j)
+pub key_before : (lo : ℤ) (i j : ℕ) → i < j → Before (key_at lo i) (key_at lo j)
 key_before lo i j h = number_before (lo +ℤ pos i) (lo +ℤ pos j) (omega (arith, int_rules))
 
 module _ (lo : ℤ) (p : ℕ → Bool) where
-  AllAfter-bits : (i a n : ℕ) → i < a → AllAfter (key_at lo i) (map (key_at lo) (filter p (range_with_len a n)))
+  pub AllAfter-bits : (i a n : ℕ) → i < a → AllAfter (key_at lo i) (map (key_at lo) (filter p (range_with_len a n)))
   AllAfter-bits i a zero h = tt
   AllAfter-bits i a (suc n) h = by_cases (p a) (AllAfter-bits i (a + 1) n (omega arith))
     where

@@ -17,7 +17,7 @@ use Rattle.kid_value.specs.ValueMap.{keys, lookup}
 use Rattle.kid_value.specs.ValueSet.{value_eq, is_member, set_of}
 use Rattle.kid_value.proofs.ValueSetLaws.{is_member-union, value_eq-true, value_eq-itself}
 
-or_false : (b : Bool) → (b || false) ≡ b
+pub or_false : (b : Bool) → (b || false) ≡ b
 or_false true = refl
 or_false false = refl
 

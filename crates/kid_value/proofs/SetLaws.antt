@@ -9,7 +9,7 @@ use Rattle.kid_value.specs.ValueSet.{value_eq, is_member, Ascends, put, put_by, 
 use Rattle.kid_value.specs.Rows.Parts.{total, number_of}
 use Rattle.kid_value.proofs.ValueSetLaws.{same_members, Ascends-union, Ascends-filter, is_member-union, is_member-filter, or_assoc}
 
-or_comm : (b c : Bool) → (b || c) ≡ (c || b)
+pub or_comm : (b c : Bool) → (b || c) ≡ (c || b)
 or_comm true true = refl
 or_comm true false = refl
 or_comm false true = refl

@@ -7,16 +7,10 @@ use Rattle.kid_value.specs.PlainValue.{PlainValue, set, row, items}
 use Rattle.kid_value.specs.ValueOrder.{value_cmp, set_cmp, Before}
 use Rattle.kid_value.specs.ValueSet.{value_eq, is_member, Ascends}
 use Rattle.kid_value.specs.SetOrder.{LacksLeast}
+use Rattle.kid_value.proofs.MemberLemmas.{is_member-first, is_member-later}
 use Rattle.kid_value.proofs.ValueOrderLaws.{value_cmp-total, value_cmp-equal, set_cmp-equal}
 use Rattle.kid_value.proofs.RowLemmas.{items_row}
-use Rattle.kid_value.proofs.ValueSetLaws.{value_eq-itself, value_eq-comm, is_member-after, AllAfter-before, Before-member, Before-greater}
-
-or_true : (b c : Bool) → c ≡ true → (b || c) ≡ true
-or_true true c e = refl
-or_true false c e = e
-
-here : (y : PlainValue) (ys : List PlainValue) → is_member y (y ∷ ys) ≡ true
-here y ys = ap (λ c. c || is_member y ys) (value_eq-itself y)
+use Rattle.kid_value.proofs.ValueSetLaws.{value_eq-comm, is_member-after, AllAfter-before, Before-member, Before-greater}
 
 -- a smaller set lacks the least value in which it differs
 pub LacksLeast-less : (xs ys : List PlainValue) → Ascends xs → Ascends ys → set_cmp (row xs) (row ys) ≡ Less → LacksLeast xs ys
@@ -24,7 +18,7 @@ LacksLeast-less [] [] a b p = cc
 LacksLeast-less [] (y ∷ ys) a b p = record {
   least = y;
   absent = refl;
-  present = here y ys;
+  present = is_member-first y ys;
   agree = λ w h. sym (is_member-after w (y ∷ ys) (h, AllAfter-before w y ys h b.0));
 }
 LacksLeast-less (x ∷ xs) [] a b p = cc
@@ -40,7 +34,7 @@ LacksLeast-less (x ∷ xs) (y ∷ ys) a b p = by (value_cmp x y) refl p (LacksLe
         record {
           least = l.least;
           absent = rw (not_x) l.absent;
-          present = or_true (value_eq l.least y) (is_member l.least ys) l.present;
+          present = is_member-later l.least y ys l.present;
           agree = λ w h. λ i. value_eq w (same i) || l.agree w h i;
         }
     by Greater e q ih =
@@ -48,7 +42,7 @@ LacksLeast-less (x ∷ xs) (y ∷ ys) a b p = by (value_cmp x y) refl p (LacksLe
         record {
           least = y;
           absent = is_member-after y (x ∷ xs) (before, AllAfter-before y x xs before a.0);
-          present = here y ys;
+          present = is_member-first y ys;
           agree = λ w h.
               let to_x : Before w x = value_cmp-total.trans w y x h before in
               is_member-after w (x ∷ xs) (to_x, AllAfter-before w x xs to_x a.0) ∙ sym (is_member-after w (y ∷ ys) (h, AllAfter-before w y ys h b.0));

@@ -40,7 +40,7 @@ pub AllAfter-before : (x y : PlainValue) (zs : List PlainValue) → Before x y �
 AllAfter-before x y [] b a = tt
 AllAfter-before x y (z ∷ zs) b a = (value_cmp-total.trans x y z b a.0, AllAfter-before x y zs b a.1)
 
-or_cases : (b c : Bool) → (b || c) ≡ true → (b ≡ true) ⊎ (c ≡ true)
+pub or_cases : (b c : Bool) → (b || c) ≡ true → (b ≡ true) ⊎ (c ≡ true)
 or_cases true c p = inl refl
 or_cases false c p = inr p
 

@@ -1,0 +1,64 @@
+-- Words by their bits.
+use Rattle.std.proofs.Common.{◌≡◌, ℕ, ◌+◌, ◌<◌, ◌≤◌, zero, suc, ℤ, Bool, true, false, cond, List, ◌∷◌, map, refl, sym, ap, ◌∙◌, arith, inl, inr}
+use Rattle.std.specs.List.{range_with_len}
+use Rattle.std.specs.Ordering.{is_eq}
+use Rattle.std.specs.Prelude.{not, ◌||◌, ◌&&◌, filter, nat_eq}
+use Rattle.std.proofs.lemmas.Bool.{cases_lt}
+use Rattle.kid_value.specs.Contents.{IsSet, has}
+use Rattle.kid_value.specs.PlainValue.{PlainValue, int, set, items}
+use Rattle.kid_value.specs.Rows.Kinds.{natural}
+use Rattle.kid_value.specs.Rows.Word as rows
+use Rattle.kid_value.specs.Rows.Word.{has_bit, word_of, word_size, key_at, bits_below}
+use Rattle.kid_value.specs.ValueSet.{is_member}
+use Rattle.kid_value.specs.WordLaws.{bit_of, WordLaws}
+use Rattle.kid_value.proofs.MemberLemmas.{is_member-first}
+use Rattle.kid_value.proofs.RowCanonical.{key_before, AllAfter-bits}
+use Rattle.kid_value.proofs.RowLemmas.{items_row}
+use Rattle.kid_value.proofs.RowMeaning.{bit_at-word_of}
+use Rattle.kid_value.proofs.ValueSetLaws.{is_member-after, value_eq-comm}
+
+-- a word has the bits that pass
+has_bit-word_of : (p : ℕ → Bool) (n i : ℕ) → i < n → has_bit (word_of p n) i ≡ p i
+has_bit-word_of p n i l = ap (λ z. nat_eq z 1) (bit_at-word_of p n i l) ∙ by (p i)
+  where
+    by : (b : Bool) → nat_eq (cond b 1 0) 1 ≡ b
+    by true = refl
+    by false = refl
+
+wenc_told : (lo k : ℤ) (s : PlainValue) (i : ℕ) → IsSet s → i < natural k → bit_of i (rows.wenc (int lo) (int k) s) ≡ has (key_at lo i) s
+wenc_told lo k (set vs) i j l = has_bit-word_of (λ n. is_member (key_at lo n) (items vs)) (natural k) i l
+wenc_told lo k s i j l = absurd j
+
+-- the numbers of a word's bits have just that of each bit
+module _ (lo : ℤ) (p : ℕ → Bool) (i : ℕ) where
+  abbrev numbered : ℕ → ℕ → List PlainValue
+  numbered a n = map (key_at lo) (filter p (range_with_len a n))
+
+  among : (a n : ℕ) → a ≤ i → i < a + n → is_member (key_at lo i) (numbered a n) ≡ p i
+  among a zero l h = absurd (omega arith)
+  among a (suc n) l h =
+      elim (cases_lt a i) [
+        | inl g ↦ later (p a) g (among (a + 1) n (omega arith) (omega arith))
+        | inr g ↦ let e : a ≡ i = omega arith in here (p a) (ap p (sym e)) e
+      ]
+    where
+      later : (b : Bool) → a < i → is_member (key_at lo i) (numbered (a + 1) n) ≡ p i → is_member (key_at lo i) (map (key_at lo) (cond b (a ∷ filter p (range_with_len (a + 1) n)) (filter p (range_with_len (a + 1) n)))) ≡ p i
+      later true g ih = ap (λ c. c || is_member (key_at lo i) (numbered (a + 1) n)) (value_eq-comm (key_at lo i) (key_at lo a) ∙ ap is_eq (key_before lo a i g)) ∙ ih
+      later false g ih = ih
+
+      here : (b : Bool) → p i ≡ b → a ≡ i → is_member (key_at lo i) (map (key_at lo) (cond b (a ∷ filter p (range_with_len (a + 1) n)) (filter p (range_with_len (a + 1) n)))) ≡ p i
+      here true q e = ap (λ z. is_member (key_at lo i) (key_at lo z ∷ (numbered (a + 1) n))) e ∙ is_member-first (key_at lo i) (numbered (a + 1) n) ∙ sym q
+      here false q e = is_member-after (key_at lo i) (numbered (a + 1) n) (AllAfter-bits lo p i (a + 1) n (omega arith)) ∙ sym q
+
+wdec_told : (lo k r : ℤ) (i : ℕ) → i < natural k → has (key_at lo i) (rows.wdec (int lo) (int k) (int r)) ≡ bit_of i (int r)
+wdec_told lo k r i l = ap (is_member (key_at lo i)) (items_row (map (key_at lo) (bits_below (natural k) (natural r)))) ∙ among lo (has_bit (natural r)) i 0 (natural k) (omega arith) (omega arith)
+
+pub laws : WordLaws
+laws =
+    record {
+      wenc = wenc_told;
+      wdec = wdec_told;
+      wor = λ r s i l. has_bit-word_of (λ n. has_bit (natural r) n || has_bit (natural s) n) word_size i l;
+      wand = λ r s i l. has_bit-word_of (λ n. has_bit (natural r) n && has_bit (natural s) n) word_size i l;
+      wnot = λ r s i l. has_bit-word_of (λ n. has_bit (natural r) n && not (has_bit (natural s) n)) word_size i l;
+    }
