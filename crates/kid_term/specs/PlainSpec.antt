@@ -1,5 +1,5 @@
 -- A problem as plain data.
-use Rattle.std.specs.Prelude.{ℕ, List, [], ◌∷◌, ◌++◌}
+use Rattle.std.specs.Prelude.{ℕ, List, Option, [], ◌∷◌, ◌++◌}
 use Rattle.kid_value.specs.PlainSort.{PlainSort}
 use Rattle.kid_value.specs.SortView.{plain_sort}
 use Rattle.kid_term.specs.Names.{Names}
@@ -7,13 +7,14 @@ use Rattle.kid_term.specs.PlainTerm.{PlainTerm}
 use Rattle.kid_term.specs.TermView.{plain_term}
 use Rattle.kid_term.specs.declared.spec.Spec.{Spec}
 
--- the inputs with their sorts, the condition that they meet, the output with its sort, and the relation between the inputs and the output
+-- the inputs with their sorts, the condition that they meet, the output with its sort, the relation between the inputs and the output, and how many answers are wanted, where not all are
 pub record PlainSpec : Type 0 where
   pub inputs : Names
   pub condition : PlainTerm
   pub output : List ℕ
   pub sort : PlainSort
   pub relation : PlainTerm
+  pub first : Option ℕ
 
 abbrev pub plain_spec : Spec → PlainSpec
 plain_spec s = record {
@@ -22,6 +23,7 @@ plain_spec s = record {
   output = s.output;
   sort = plain_sort s.sort;
   relation = plain_term s.relation;
+  first = s.first;
 }
 
 -- the names that the relation sees
