@@ -1,5 +1,5 @@
 -- What holds of all terms.
-use Rattle.std.specs.Prelude.{◌≡◌, ℕ, List, Some, Ok}
+use Rattle.std.specs.Prelude.{◌≡◌, ◌↔◌, ℕ, true, false, List, [], ◌∷◌, Some, Ok}
 use Rattle.kid_value.specs.PlainValue.{PlainValue}
 use Rattle.kid_value.specs.PlainSort.{PlainSort}
 use Rattle.kid_term.specs.PlainTerm.{PlainTerm}
@@ -13,6 +13,9 @@ use Rattle.kid_term.specs.Small.{StaysSmall}
 use Rattle.kid_term.specs.Quote.{literal_of}
 use Rattle.kid_term.specs.PlainSpec.{PlainSpec}
 use Rattle.kid_term.specs.Answer.{AllAnswers, Answer}
+use Rattle.kid_term.specs.Substitution.{mentions, replaced, captures}
+use Rattle.kid_term.specs.Simultaneous.{substituted, captures_any}
+use Rattle.kid_term.specs.Closed.{is_closed}
 
 -- over sound definitions and an environment that fits, a sorted term has a value of its sort, and every integer on the way is small
 pub record IsEvaluated (defs : List PlainDef) (env : Env) (t : PlainTerm) (s : PlainSort) : Type 0 where
@@ -41,3 +44,17 @@ HasOneList Is = (calls : Calls) (spec : PlainSpec) (x : Env) (vs ws : List Plain
 
 abbrev pub AnswersAreDetermined : Type 0
 AnswersAreDetermined = HasOneList AllAnswers × HasOneList Answer
+
+-- one name at once is one name
+abbrev pub OneNameIsReplaced : Type 0
+OneNameIsReplaced =
+    (x : List ℕ) (new t : PlainTerm)
+    → (substituted ((x, new) ∷ []) t ≡ replaced x new t) × (captures_any ((x, new) ∷ []) t ≡ captures x new t)
+
+-- a term is closed exactly where no name stands free in it, and then has the same value in each environment
+pub record IsConstant (t : PlainTerm) : Type 0 where
+  pub free : (is_closed t ≡ true) ↔ ((x : List ℕ) → mentions x t ≡ false)
+  pub value : is_closed t ≡ true → (calls : Calls) (env env' : Env) → eval calls env t ≡ eval calls env' t
+
+abbrev pub ClosedTermsAreConstant : Type 0
+ClosedTermsAreConstant = (t : PlainTerm) → IsConstant t

@@ -16,4 +16,6 @@ mod places;
 #[cfg(test)]
 mod renames;
 #[cfg(test)]
+mod simultaneous;
+#[cfg(test)]
 mod sizes;
