@@ -4,7 +4,7 @@ use Rattle.std.specs.Prelude.{not, ◌&&◌, ◌||◌}
 use Rattle.std.specs.List.{list_any}
 use Rattle.kid_value.specs.PlainValue.{PlainValue}
 use Rattle.kid_value.specs.Rows.Parts.{members_of}
-use Rattle.kid_term.specs.PlainTerm.{PlainTerm, var, number, truth, app, bind, PlainTerms, no_term, term, term_row}
+use Rattle.kid_term.specs.PlainTerm.{PlainTerm, var, number, truth, tag, app, bind, PlainTerms, no_term, term, term_row}
 use Rattle.kid_term.specs.TermView.{plain_term}
 use Rattle.kid_term.specs.declared.Term.{Term}
 use Rattle.kid_term.specs.Names.{same_name}
@@ -33,6 +33,7 @@ mutual
   captures-itself x (var y) = refl
   captures-itself x (number n) = refl
   captures-itself x (truth b) = refl
+  captures-itself x (tag n) = refl
   captures-itself x (app h ts) = some_capture-itself x ts
   captures-itself x (bind b y s t) = by (same_name x y) refl (captures-itself x s) (captures-itself x t)
     where
@@ -102,6 +103,7 @@ module _ (calls : Calls) where
     eval-put (var x) σ env env' f h = h x (same_name-itself x)
     eval-put (number n) σ env env' f h = refl
     eval-put (truth b) σ env env' f h = refl
+    eval-put (tag n) σ env env' f h = refl
     eval-put (app g ts) σ env env' f h = ap (head_value calls g) (evals-put ts σ env env' f h)
     eval-put (bind b y s t) σ env env' f h =
         let e = eval-put s σ env env' (λ x. (or_none (captures x (term_for x σ) s) _ (f x)).0) (λ x m. h x (or_left (mentions x s) _ m)) in
@@ -137,6 +139,7 @@ mutual
   nothing_put (var x) σ h = h x
   nothing_put (number n) σ h = refl
   nothing_put (truth b) σ h = refl
+  nothing_put (tag n) σ h = refl
   nothing_put (app g ts) σ h = ap (app g) (none_put ts σ h)
   nothing_put (bind b y s t) σ h =
       let e = nothing_put s σ h in
@@ -162,6 +165,7 @@ module _ (x : List ℕ) (new : PlainTerm) where
     one_put (var y) σ h = h y
     one_put (number n) σ h = refl
     one_put (truth b) σ h = refl
+    one_put (tag n) σ h = refl
     one_put (app g ts) σ h = ap (app g) (one_put_in ts σ h)
     one_put (bind b y s t) σ h =
         let e = one_put s σ h in

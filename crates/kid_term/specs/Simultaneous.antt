@@ -1,7 +1,7 @@
 -- Terms in the places of several names at once.
 use Rattle.std.specs.Prelude.{ℕ, Bool, cond, Option, Some, None, List, [], ◌∷◌}
 use Rattle.std.specs.List.{list_any}
-use Rattle.kid_term.specs.PlainTerm.{PlainTerm, var, number, truth, app, bind, PlainTerms, no_term, term}
+use Rattle.kid_term.specs.PlainTerm.{PlainTerm, var, number, truth, tag, app, bind, PlainTerms, no_term, term}
 use Rattle.kid_term.specs.Names.{same_name}
 use Rattle.kid_term.specs.Substitution.{captures}
 use Rattle.kid_term.specs.Eval.{Env, Calls, eval}
@@ -30,6 +30,7 @@ abbrev mutual
   substituted σ (var x) = term_for x σ
   substituted σ (number n) = number n
   substituted σ (truth b) = truth b
+  substituted σ (tag n) = tag n
   substituted σ (app h ts) = app h (all_substituted σ ts)
   substituted σ (bind b y s t) = bind b y (substituted σ s) (substituted ((y, var y) ∷ σ) t)
 

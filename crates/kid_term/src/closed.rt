@@ -25,12 +25,12 @@ impl Term {
     }
 }
 
-fn is_among<'a>(x: &Text, bound: &'a Bound<'a>) -> bool
-    ensures { result ≡ spec.is_among x.now (names_of bound.now) }
+fn is_one_of<'a>(x: &Text, bound: &'a Bound<'a>) -> bool
+    ensures { result ≡ spec.is_one_of x.now (names_of bound.now) }
 {
     match *bound {
         Bound::Nothing => false,
-        Bound::More(y, rest) => is_same(x, y) || is_among(x, rest),
+        Bound::More(y, rest) => is_same(x, y) || is_one_of(x, rest),
     }
 }
 
@@ -40,7 +40,7 @@ fn is_over<'a>(bound: &'a Bound<'a>, term: &'a Term) -> bool
     ensures { result ≡ spec.is_over (names_of bound.now) (plain_term term.now) }
 {
     match term {
-        Term::Var(x) => is_among(x, bound),
+        Term::Var(x) => is_one_of(x, bound),
         Term::Lit(_) => true,
         Term::App(_, args) => all_over(bound, &args.items),
         Term::Bind(_, y, set, body) => {

@@ -122,7 +122,7 @@ pub(crate) fn substituted<'a>(
 {
     match term {
         Term::Var(x) => look_up(alloc, scope, x),
-        Term::Lit(l) => Ok(Term::Lit(*l)),
+        Term::Lit(l) => Ok(Term::Lit(l.copy(alloc)?)),
         Term::App(head, args) => {
             let head = head.copy(alloc)?;
             let items = all_substituted(alloc, scope, &args.items)?;
