@@ -39,6 +39,7 @@ program_with h main search = record {
   condition = h.condition;
   output = h.output.0;
   sort = h.output.1;
+  first = None;
   main = main;
   parameters = search.0;
   search = search.1;

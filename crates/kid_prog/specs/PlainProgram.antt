@@ -1,5 +1,5 @@
 -- A search program as plain data.
-use Rattle.std.specs.Prelude.{ℕ, List}
+use Rattle.std.specs.Prelude.{ℕ, List, Option}
 use Rattle.kid_value.specs.PlainSort.{PlainSort}
 use Rattle.kid_term.specs.PlainTerm.{PlainTerm}
 use Rattle.kid_term.specs.Names.{Names, PlainDef}
@@ -11,6 +11,7 @@ pub record PlainProgram : Type 0 where
   pub condition : PlainTerm
   pub output : List ℕ
   pub sort : PlainSort
+  pub first : Option ℕ
   pub main : PlainStmts
   pub parameters : Names
   pub search : PlainStmts

@@ -12,6 +12,7 @@ plain_program p = record {
   condition = plain_term p.condition;
   output = p.output;
   sort = plain_sort p.sort;
+  first = p.first;
   main = stmt_row p.main;
   parameters = p.parameters;
   search = stmt_row p.search;

@@ -71,6 +71,7 @@ fn program_with(heading: Heading, main: Stmts, parameters: Names, search: Stmts)
         condition,
         output,
         sort,
+        first: None,
         main,
         parameters,
         search,

@@ -13,6 +13,8 @@ pub struct Program {
     /// The name of the values that are emitted, and their sort.
     pub output: Text,
     pub sort: Sort,
+    /// How many values are wanted, where not all are.
+    pub first: Option<u32>,
     pub main: Stmts,
     /// The parameters of the search procedure.
     pub parameters: Names,

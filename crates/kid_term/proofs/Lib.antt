@@ -1,4 +1,6 @@
+pub mod AnswerLemmas
 pub mod BinderSound
+pub mod ClosedLemmas
 pub mod Counting
 pub mod Digits
 pub mod EqualityLemmas
@@ -24,6 +26,7 @@ pub mod SeqRanks
 pub mod SeqSound
 pub mod SetRanks
 pub mod SetSound
+pub mod SimultaneousLemmas
 pub mod SizeLemmas
 pub mod SortedValue
 pub mod Sums

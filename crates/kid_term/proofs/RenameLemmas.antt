@@ -13,7 +13,8 @@ use Rattle.kid_term.specs.TermView.{plain_term}
 use Rattle.kid_term.specs.declared.Term.{Term}
 use Rattle.kid_term.specs.declared.rename.RenameFault.{RenameFault}
 use Rattle.kid_term.specs.declared.rename.RenameFault.TheVariants as fault
-use Rattle.kid_term.proofs.EvalLemmas.{same_name-itself, same_name-true, same_name-comm, eval-replaced, or_none}
+use Rattle.kid_term.proofs.EvalLemmas.{same_name-itself, same_name-true, same_name-comm, or_none}
+use Rattle.kid_term.proofs.SimultaneousLemmas.{eval-replaced}
 
 -- a name that no binder has is not captured
 module _ (x to : List ℕ) where
@@ -56,7 +57,7 @@ eval-renamed calls env b x to s t p q = λ i. binder_value b (members_of (eval c
 
     at : (v : PlainValue) → eval calls ((to, v) ∷ env) (replaced x (var to) t) ≡ eval calls ((x, v) ∷ env) t
     at v =
-        eval-replaced calls x (var to) t ((to, v) ∷ env) ((x, v) ∷ env) (captures-unbound x to t q) (λ y m n. other v y m n (same_name y to) refl)
+        eval-replaced x (var to) calls t ((to, v) ∷ env) ((x, v) ∷ env) (captures-unbound x to t q) (λ y m n. other v y m n (same_name y to) refl)
         (λ m. rw (same_name-itself x, same_name-itself to) refl)
 
 abbrev done : PlainTerm → Result PlainTerm RenameFault

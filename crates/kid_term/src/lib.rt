@@ -9,6 +9,7 @@ use std::alloc::Global;
 use std::marker::Model;
 
 pub mod call_depth;
+mod closed;
 mod copy;
 pub mod definition;
 mod equality;
@@ -22,7 +23,9 @@ mod refine_form;
 pub mod rename;
 mod size;
 mod spec;
+mod subst;
 pub mod substitute;
+mod substitute_all;
 mod why;
 mod word;
 
@@ -35,6 +38,7 @@ pub use quotation::quote;
 pub use refine_form::RefineForm;
 pub use rename::RenameFault;
 pub use spec::Spec;
+pub use subst::Subst;
 pub use substitute::SubstFault;
 pub use why::Why;
 

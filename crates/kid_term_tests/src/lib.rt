@@ -18,6 +18,8 @@ mod quotes;
 #[cfg(test)]
 mod renames;
 #[cfg(test)]
+mod simultaneous;
+#[cfg(test)]
 mod sizes;
 #[cfg(test)]
 mod values;

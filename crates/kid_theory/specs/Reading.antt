@@ -1,5 +1,5 @@
 -- The theory that a file spells, or the first form that is refused.
-use Rattle.std.specs.Prelude.{ℕ, suc, nat_le, List, [], ◌∷◌, ◌++◌, Result, Ok, Err, if◌then◌else◌, length, codes}
+use Rattle.std.specs.Prelude.{ℕ, suc, nat_le, List, [], ◌∷◌, ◌++◌, Result, Ok, Err, if◌then◌else◌, length, codes, None}
 use Rattle.kid_sexp.specs.Plain.{Plains, none, more}
 use Rattle.kid_sexp.specs.Brackets.{Fault}
 use Rattle.kid_sexp.specs.Reading.{reading}
@@ -47,7 +47,7 @@ theory_with f output relation = record {
   signature = record { definitions = f.definitions; inputs = f.inputs };
   laws = [];
   axioms = f.axioms;
-  spec = record { inputs = f.inputs; condition = f.condition; output = output.0; sort = output.1; relation = relation };
+  spec = record { inputs = f.inputs; condition = f.condition; output = output.0; sort = output.1; relation = relation; first = None };
 }
 
 -- Of each of the following the number is that of the forms before.

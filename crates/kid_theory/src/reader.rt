@@ -105,6 +105,7 @@ fn theory_with(
         output,
         sort,
         relation,
+        first: None,
     };
     Ok(Theory {
         signature: Signature::from_parts(definitions, inputs),

@@ -56,6 +56,7 @@ emitted_with t test lo hi = record {
   condition = t.spec.condition;
   output = t.spec.output;
   sort = t.spec.sort;
+  first = None;
   main = single (open_call (number lo) (number hi));
   parameters = (codes "low", ints lo (hi +ℤ pos 1)) ∷ (codes "high", ints (lo -ℤ pos 1) hi) ∷ [];
   search = stmt (leaf_part t.spec.sort test) (single kid_part);
