@@ -8,7 +8,7 @@ use Rattle.kid_value.specs.ValueSet.{is_member, value_eq, set_of}
 use Rattle.kid_value.specs.Rows.Parts.{truth_of, members_of, total}
 use Rattle.kid_value.specs.Rows.Kinds.{set_from}
 use Rattle.kid_value.proofs.ValueSetLaws.{value_eq-itself, value_eq-true}
-use Rattle.kid_term.specs.PlainTerm.{PlainHead, op, PlainTerm, var, number, truth, app, bind, PlainTerms, no_term, term}
+use Rattle.kid_term.specs.PlainTerm.{PlainHead, op, PlainTerm, var, number, truth, tag, app, bind, PlainTerms, no_term, term}
 use Rattle.kid_term.specs.declared.operator.Op.TheVariants.{Logic}
 use Rattle.kid_term.specs.declared.operator.LogicOp.TheVariants.{And, Implies, If}
 use Rattle.kid_term.specs.declared.operator.Binder.{Binder}
@@ -184,11 +184,13 @@ module _ (known : List PlainDef) (calls : Calls) (checks : Checks) (fit : CallsF
     eval-put_at (var x) [] new names env s s' p p' a h k = k
     eval-put_at (number n) [] new names env s s' p p' a h k = k
     eval-put_at (truth b) [] new names env s s' p p' a h k = k
+    eval-put_at (tag n) [] new names env s s' p p' a h k = k
     eval-put_at (app g ts) [] new names env s s' p p' a h k = k
     eval-put_at (bind b x u t) [] new names env s s' p p' a h k = k
     eval-put_at (var x) (i ∷ path) new names env s s' p p' a h k = refl
     eval-put_at (number n) (i ∷ path) new names env s s' p p' a h k = refl
     eval-put_at (truth b) (i ∷ path) new names env s s' p p' a h k = refl
+    eval-put_at (tag n) (i ∷ path) new names env s s' p p' a h k = refl
     eval-put_at (app g ts) (i ∷ path) new names env s s' p p' a h k =
         let r = bind_ok (least_sorts known names ts) (head_sort known g (written ts)) s p in
         let r' = bind_ok (least_sorts known names (put_among ts i path new)) (head_sort known g (written (put_among ts i path new))) s' p' in
