@@ -1,5 +1,6 @@
 pub mod Each
 pub mod Found
+pub mod JoinedMaps
 pub mod Lengths
 pub mod Numbers
 pub mod Printed
@@ -7,6 +8,11 @@ pub mod Puts
 pub mod ShapeTold
 pub mod SortBack
 pub mod SortTold
+pub mod SpelledAnswers
+pub mod SpelledCanonical
+pub mod SpelledExampleProofs
+pub mod SpelledRead
+pub mod SpelledTold
 pub mod Taken
 pub mod TermBack
 pub mod TermTold

@@ -5,6 +5,8 @@ pub mod Reading
 pub mod Reserved
 pub mod Shape
 pub mod SortSpelling
+pub mod SpelledExamples
+pub mod SpelledValue
 pub mod Takes
 pub mod TermSpelling
 pub mod ValueSpelling

@@ -8,6 +8,7 @@ ghost use Rattle.kid_value.specs.PlainValue.{row, table};
 ghost use Rattle.kid_value.specs.SortView.{plain_sort};
 ghost use Rattle.kid_value.specs.ValueView.{plain, plain_entry};
 ghost use Rattle.kid_codec.specs.SortSpelling.{number_tree, sort_spelling, is_spelled_sort, sort_reading};
+ghost use Rattle.kid_codec.specs.SpelledValue.{Spells};
 ghost use Rattle.kid_codec.specs.TermSpelling.{head_spelling, term_spelling, term_spellings, is_spelled_term, term_reading};
 ghost use Rattle.kid_codec.specs.ValueSpelling.{truth_word, value_spelling, value_spellings, entry_spellings, is_spelled_value, spelled_value};
 
@@ -169,6 +170,7 @@ pub fn value_tree(alloc: Global, value: &Value) -> Result<Tree, Memory>
     requires { is_spelled_value (plain value.now) ≡ true }
     ensures spelling { IfOk result (λ t. plain_tree t ≡ value_spelling (plain value.now)) }
     ensures back { IfOk result (λ t. spelled_value (plain_tree t) ≡ Some (plain value.now)) }
+    ensures spells { IfOk result (λ t. Spells (plain_tree t) (plain value.now)) }
 {
     value.canonical();
     tree_of_value(alloc, value)

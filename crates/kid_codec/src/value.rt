@@ -1,11 +1,13 @@
 ghost use Rattle.std.specs.Prelude.{◌≡◌, true, IfOk, option_map};
 ghost use Rattle.kid_sexp.specs.Tree.{plain as plain_tree, plains};
 ghost use Rattle.kid_value.specs.SortOrder.{both};
-ghost use Rattle.kid_value.specs.PlainValue.{pair};
+ghost use Rattle.kid_value.specs.PlainSort.{has_sort};
+ghost use Rattle.kid_value.specs.PlainValue.{PlainValue, pair};
 ghost use Rattle.kid_value.specs.SortView.{plain_sort};
 ghost use Rattle.kid_value.specs.ValueSet.{set_of};
 ghost use Rattle.kid_value.specs.ValueView.{plain, plain_entry};
 ghost use Rattle.kid_codec.specs.Reading.{Gives, Finds};
+ghost use Rattle.kid_codec.specs.SpelledValue.{Spells, TellsValue, IsReadAs};
 ghost use Rattle.kid_codec.specs.ValueSpelling.{atom_value, with_entry, distinct_entries, value_of_parts, spelled_value, spelled_list, spelled_pair, spelled_values, spelled_entry, key_and_value, spelled_entries, is_spelled_value, value_reading};
 
 use crate::fault::CodecFault;
@@ -168,6 +170,18 @@ fn entries_from(alloc: Global, trees: &[Tree]) -> Result<Entries, CodecFault>
     Ok(entries)
 }
 
+/// What is read, if it is of the sort.
+fn value_in_sort(alloc: Global, tree: &Tree, sort: &Sort) -> Result<Value, CodecFault>
+    ensures { Gives plain result (value_reading (plain_sort sort.now) (plain_tree tree.now)) }
+{
+    let value = spelled_value(alloc, tree)?;
+    if has_sort(&value, sort) {
+        Ok(value)
+    } else {
+        Err(CodecFault::Form)
+    }
+}
+
 /// The value of a sort that a tree spells: a number, `true`, `false`, `(pair a b)`, `(set a ..)`, `(seq a ..)` or
 /// `(map (k v) ..)`. Members and entries may stand in any order, and a member may be repeated.
 ///
@@ -177,11 +191,9 @@ fn entries_from(alloc: Global, trees: &[Tree]) -> Result<Entries, CodecFault>
 pub fn value_of(alloc: Global, tree: &Tree, sort: &Sort) -> Result<Value, CodecFault>
     ensures reading { Gives plain result (value_reading (plain_sort sort.now) (plain_tree tree.now)) }
     ensures spelled { IfOk result (λ v. is_spelled_value (plain v) ≡ true) }
+    // By what the tree spells, which no step of a reader defines.
+    ensures told { TellsValue (plain_sort sort.now) (plain_tree tree.now) result }
+    ensures read { (v : PlainValue) → Spells (plain_tree tree.now) v → has_sort (plain_sort sort.now) v ≡ true → IsReadAs v result }
 {
-    let value = spelled_value(alloc, tree)?;
-    if has_sort(&value, sort) {
-        Ok(value)
-    } else {
-        Err(CodecFault::Form)
-    }
+    value_in_sort(alloc, tree, sort)
 }
