@@ -1,3 +1,4 @@
+pub mod AnswerLemmas
 pub mod BinderSound
 pub mod Counting
 pub mod Digits

@@ -11,6 +11,8 @@ use Rattle.kid_term.specs.Sorting.{sort_of}
 use Rattle.kid_term.specs.Fitting.{IsOfSort, Fits, AreAllowed, AreSound}
 use Rattle.kid_term.specs.Small.{StaysSmall}
 use Rattle.kid_term.specs.Quote.{literal_of}
+use Rattle.kid_term.specs.PlainSpec.{PlainSpec}
+use Rattle.kid_term.specs.Answer.{AllAnswers, Answer}
 
 -- over sound definitions and an environment that fits, a sorted term has a value of its sort, and every integer on the way is small
 pub record IsEvaluated (defs : List PlainDef) (env : Env) (t : PlainTerm) (s : PlainSort) : Type 0 where
@@ -32,3 +34,10 @@ ExchangesKeepValues =
     (defs : List PlainDef) (names : Names) (env : Env) (t new : PlainTerm) (path : List ℕ) (s s' : PlainSort)
     → AreSound defs → AreAllowed names → Fits names env → sort_of defs names t ≡ Ok s → sort_of defs names (put_at t path new) ≡ Ok s'
     → SameAt (calls_of defs) t path new env → eval (calls_of defs) env (put_at t path new) ≡ eval (calls_of defs) env t
+
+-- at most one list has all answers, and at most one is the answer
+abbrev pub HasOneList : (Calls → PlainSpec → Env → List PlainValue → Type 0) → Type 0
+HasOneList Is = (calls : Calls) (spec : PlainSpec) (x : Env) (vs ws : List PlainValue) → Is calls spec x vs → Is calls spec x ws → vs ≡ ws
+
+abbrev pub AnswersAreDetermined : Type 0
+AnswersAreDetermined = HasOneList AllAnswers × HasOneList Answer

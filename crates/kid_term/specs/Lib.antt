@@ -1,3 +1,4 @@
+pub mod Answer
 pub mod CallDepth
 pub mod Chain
 pub mod Contexts

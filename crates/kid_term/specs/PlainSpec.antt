@@ -1,5 +1,5 @@
 -- A problem as plain data.
-use Rattle.std.specs.Prelude.{ℕ, List, Option, [], ◌∷◌, ◌++◌}
+use Rattle.std.specs.Prelude.{ℕ, nat_le, Bool, true, ◌&&◌, List, [], ◌∷◌, ◌++◌, Option, Some, None}
 use Rattle.kid_value.specs.PlainSort.{PlainSort}
 use Rattle.kid_value.specs.SortView.{plain_sort}
 use Rattle.kid_term.specs.Names.{Names}
@@ -15,6 +15,15 @@ pub record PlainSpec : Type 0 where
   pub sort : PlainSort
   pub relation : PlainTerm
   pub first : Option ℕ
+
+-- how many answers may be asked for
+abbrev pub is_count : ℕ → Bool
+is_count n = nat_le 1 n && nat_le n 1000000
+
+-- all answers, or so many
+abbrev pub is_wanted : Option ℕ → Bool
+is_wanted None = true
+is_wanted (Some n) = is_count n
 
 abbrev pub plain_spec : Spec → PlainSpec
 plain_spec s = record {

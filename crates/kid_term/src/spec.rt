@@ -10,5 +10,6 @@ pub struct Spec {
     pub output: Text,
     pub sort: Sort,
     pub relation: Term,
+    /// From 1 to 1,000,000, and none where all answers are wanted.
     pub first: Option<u32>,
 }
