@@ -1,5 +1,6 @@
 -- Events as far as values are wanted.
-use Rattle.std.proofs.Common.{◌≡◌, ℕ, ◌-◌, zero, suc, Bool, true, false, List, [], ◌∷◌, Option, Some, None, refl, arith, nat_tests}
+use Rattle.std.proofs.Common.{◌≡◌, ℕ, ◌-◌, zero, suc, Bool, true, false, List, [], ◌∷◌, Option, Some, None, refl, arith}
+use Rattle.std.proofs.lemmas.Bool.Decides.{nat_tests}
 use Rattle.kid_value.specs.PlainValue.{PlainValue}
 use Rattle.kid_prog.specs.Events.{Event, called, found}
 use Rattle.kid_prog.specs.Running.{upto_value}

@@ -1,7 +1,8 @@
 -- What is saved where a theory is derived: the texts of the derivation and of a program that solves the theory.
-use Rattle.std.proofs.Common.{◌≡◌, ◌≢◌, ℕ, ℤ, Bool, true, false, List, Option, Some, Result, Ok, refl, sym, ap, ◌∙◌, subst, arith, nat_tests}
+use Rattle.std.proofs.Common.{◌≡◌, ◌≢◌, ℕ, ℤ, Bool, true, false, List, Option, Some, Result, Ok, refl, sym, ap, ◌∙◌, subst, arith}
 use Rattle.std.specs.Prelude.{nat_le, if◌then◌else◌}
 use Rattle.std.specs.Str.{bytes_eq}
+use Rattle.std.proofs.lemmas.Bool.Decides.{nat_tests}
 use Rattle.kid_outer.specs.Held.{Held, update}
 use Rattle.kid_term.specs.Eval.{Env}
 use Rattle.kid_codec.proofs.Numbers.{bytes_eq-itself, bytes_eq-true}
