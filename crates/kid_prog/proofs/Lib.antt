@@ -22,3 +22,5 @@ pub mod Obeying
 pub mod StageLemmas
 pub mod Depths
 pub mod Settings
+pub mod EventLists
+pub mod RunDepths

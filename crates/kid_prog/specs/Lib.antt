@@ -1,3 +1,4 @@
+pub mod Events
 pub mod FormAnswers
 pub mod FormParts
 pub mod Formed
@@ -10,6 +11,7 @@ pub mod PlainStmt
 pub mod ProgramText
 pub mod ProgramView
 pub mod Rules
+pub mod Running
 pub mod SettingView
 pub mod Spelling
 pub mod StageAnswers

@@ -1,18 +1,21 @@
 -- What is counted of a run, step by step.
-use Rattle.std.proofs.Common.{◌≡◌, ℕ, ◌+◌, suc, List, [], ◌∷◌, ◌++◌, map, length, sym, ◌∙◌, subst, arith, append_assoc}
+use Rattle.std.proofs.Common.{◌≡◌, ℕ, ◌+◌, suc, false, List, Option, [], ◌∷◌, ◌++◌, map, length, sym, ap, ◌∙◌, subst, arith, append_assoc}
 use Rattle.kid_value.specs.PlainValue.{PlainValue}
 use Rattle.kid_term.specs.Eval.{calls_of}
 use Rattle.kid_prog.specs.PlainProgram.{PlainProgram}
 use Rattle.kid_prog.specs.Rules.{IsRunnable}
-use Rattle.kid_run.specs.Running.{Run, finding, calling}
+use Rattle.kid_prog.specs.Events.{Event, found}
+use Rattle.kid_prog.specs.Running.{Run, finding, calling, upto_value, within}
 use Rattle.kid_run.specs.Lines.{value_line, shown}
 use Rattle.kid_run.specs.Frames.{PlainMachine, step}
 use Rattle.kid_run.specs.Scope.{MachineCanRun}
-use Rattle.kid_run.specs.Account.{account, told}
+use Rattle.kid_run.specs.Account.{account, told, with_events}
 use Rattle.kid_run.specs.MoveView.{plain_move}
+use Rattle.kid_run.specs.Wanted.{has_all, after_one}
 use Rattle.kid_run.specs.declared.moves.Move.{Move as Moved}
 use Rattle.kid_run.specs.declared.tally.Tally.{Tally}
 use Rattle.kid_run.proofs.Steps.{Comes, step-comes}
+use Rattle.kid_run.proofs.WantedLemmas.{upto-found}
 
 shown-more : (a n : ℕ) → shown (a + suc n) ≡ shown (shown (a + 1) + n)
 shown-more a n = omega arith
@@ -32,6 +35,15 @@ account-called lines a s r =
 pub told-found : (t u : Tally) (v : PlainValue) (r : Run) → u.lines.items ≡ t.lines.items ++ value_line v ∷ [] → u.answers ≡ shown (t.answers + 1) → u.splits ≡ t.splits
     → told t (finding v r) ≡ told u r
 told-found t u v r e f g = account-found t.lines.items t.answers t.splits v r ∙ sym (λ i. account (e i) (f i) (g i) r)
+
+-- so it is with the events after it
+pub events-found : (t u : Tally) (l : ℕ) (v : PlainValue) (es : List Event) → has_all t.wanted ≡ false
+    → u.lines.items ≡ t.lines.items ++ value_line v ∷ [] → u.answers ≡ shown (t.answers + 1) → u.splits ≡ t.splits → u.wanted ≡ after_one t.wanted
+    → with_events t l (found v ∷ es) ≡ with_events u l es
+events-found t u l v es more e f g h =
+    ap (λ fs. told t (within l fs)) (upto-found t.wanted v es more)
+    ∙ told-found t u v (within l (upto_value (after_one t.wanted) es)) e f g
+    ∙ ap (λ (w : Option ℕ). told u (within l (upto_value w es))) (sym h)
 
 -- a call that was counted
 pub told-called : (t u : Tally) (r : Run) → u.lines.items ≡ t.lines.items → u.answers ≡ t.answers → u.splits ≡ t.splits + 1 → told t (calling r) ≡ told u r

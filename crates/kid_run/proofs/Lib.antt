@@ -1,12 +1,12 @@
 pub mod InputLemmas
 pub mod InputsTold
-pub mod Depths
 pub mod Scopes
 pub mod SpelledValues
 pub mod Steps
 pub mod FrameLemmas
 pub mod ScopeLemmas
 pub mod Accounts
+pub mod WantedLemmas
 pub mod Calls
 pub mod Fronts
 pub mod Runs

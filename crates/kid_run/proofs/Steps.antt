@@ -19,7 +19,7 @@ use Rattle.kid_prog.specs.PlainStmt.{PlainStmt, assign, when, each, emit, call, 
 use Rattle.kid_prog.specs.PlainProgram.{PlainProgram}
 use Rattle.kid_sorting.specs.Declaring.{is_truth, is_within, with_name}
 use Rattle.kid_prog.specs.Rules.{setting_of, obey, ranges, sorts_of, call_fits, IsRunnable, search_scope}
-use Rattle.kid_run.specs.Running.{found, Procedure, events, search_env}
+use Rattle.kid_prog.specs.Events.{found, Procedure, events, search_env}
 use Rattle.kid_run.specs.Frames.{PlainFrame, rest, over, caller, PlainMachine, Move, goes, finds, calls, ends, machine, kept, keeping, overs, below, first, step_at, step, waiting, entered, frames_do, doing}
 use Rattle.kid_run.specs.Scope.{CanRun, CanRunOver, AllOfSort, FramesCanRun, MachineCanRun, AreArguments}
 use Rattle.kid_run.proofs.Scopes.{Fits-end, AreAllowed-end, Fits-inside, AreAllowed-inside, parameters-fit, binds_ok, ranges_ok, is_truth_ok, is_within_ok, call_fits_ok, terms-evaluate}

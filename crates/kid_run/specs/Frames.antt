@@ -7,7 +7,7 @@ use Rattle.kid_term.specs.PlainTerm.{term_row}
 use Rattle.kid_term.specs.Eval.{Env, Calls, eval, evals}
 use Rattle.kid_prog.specs.PlainStmt.{PlainStmt, assign, when, each, emit, call, PlainStmts, no_stmt, stmt}
 use Rattle.kid_prog.specs.PlainProgram.{PlainProgram}
-use Rattle.kid_run.specs.Running.{Event, Procedure, events, search_env}
+use Rattle.kid_prog.specs.Events.{Event, Procedure, events, search_env}
 
 -- what waits until the statements above it are done
 pub data PlainFrame : Type 0 where

@@ -1,4 +1,3 @@
-pub mod Running
 pub mod Lines
 pub mod InputReading
 pub mod InputSpelling
@@ -10,3 +9,5 @@ pub mod FrameView
 pub mod MoveView
 pub mod Account
 pub mod Failed
+pub mod Wanted
+pub mod Laws

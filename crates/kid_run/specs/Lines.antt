@@ -8,7 +8,7 @@ use Rattle.kid_value.specs.Rows.Parts.{truth_of}
 use Rattle.kid_term.specs.Eval.{Env, eval, calls_of}
 use Rattle.kid_codec.specs.ValueSpelling.{value_spelling}
 use Rattle.kid_prog.specs.PlainProgram.{PlainProgram}
-use Rattle.kid_run.specs.Running.{Run, run_of}
+use Rattle.kid_prog.specs.Running.{Run, run_of}
 
 abbrev pub value_line : PlainValue → List ℕ
 value_line v = tree_text (value_spelling v) ++ 10 ∷ []

@@ -2,7 +2,7 @@
 use Rattle.std.specs.Prelude.{ℕ, List, length, map, if◌then◌else◌}
 use Rattle.kid_term.specs.Eval.{Env}
 use Rattle.kid_prog.specs.PlainProgram.{PlainProgram}
-use Rattle.kid_run.specs.Running.{Run, run_of}
+use Rattle.kid_prog.specs.Running.{Run, run_of}
 use Rattle.kid_run.specs.Lines.{shown, is_inside}
 use Rattle.kid_run.specs.declared.report.Outcome.TheVariants.{Done, Fuel, Outside}
 use Rattle.kid_run.specs.declared.report.RunEntry.{RunEntry}

@@ -16,6 +16,6 @@ mod scope;
 mod tally;
 
 pub use inputs::{InputFault, Inputs, read_inputs};
-pub use law::{inputs_are_spelled, spelled_inputs_are_read};
+pub use law::{inputs_are_spelled, spelled_inputs_are_read, whole_runs_stay};
 pub use report::{Outcome, Report, RunEntry};
 pub use runner::{RunFault, run};

@@ -1,5 +1,5 @@
 //! The run of one input.
-ghost use Rattle.std.specs.Prelude.{◌≡◌, ◌+◌, ◌<◌, ◌^◌, ◌∷◌, ◌++◌, [], true, IfOk, OnOk, map, length, option_map};
+ghost use Rattle.std.specs.Prelude.{◌≡◌, ◌+◌, ◌∷◌, ◌++◌, [], true, IfOk, OnOk, map, length, option_map};
 ghost use Rattle.kid_value.specs.ValueView.{plain};
 ghost use Rattle.kid_codec.specs.ValueSpelling.{is_spelled_value};
 ghost use Rattle.kid_term.specs.Eval.{bound};
@@ -10,8 +10,9 @@ ghost use Rattle.kid_run.specs.Account.{account, ending, Advances};
 ghost use Rattle.kid_run.specs.Frames.{entered};
 ghost use Rattle.kid_run.specs.FrameView.{plain_machine};
 ghost use Rattle.kid_run.specs.Lines.{value_line, shown};
-ghost use Rattle.kid_run.specs.Running.{run_of};
+ghost use Rattle.kid_prog.specs.Running.{run_of};
 ghost use Rattle.kid_run.specs.Scope.{MachineCanRun};
+ghost use Rattle.kid_run.specs.Wanted.{after_one};
 
 use crate::frame::{Machine, keep, keep_caller};
 use crate::lines::value_line;
@@ -36,12 +37,13 @@ fn count(alloc: Global, tally: &mut Tally, value: Value) -> Result<(), Memory>
     ensures lines { OnOk result (tally.new.lines.items ≡ tally.old.lines.items ++ value_line (plain value) ∷ []) }
     ensures answers { OnOk result (tally.new.answers ≡ shown (tally.old.answers + 1)) }
     ensures splits { OnOk result (tally.new.splits ≡ tally.old.splits) }
+    ensures wanted { OnOk result (tally.new.wanted ≡ after_one tally.old.wanted) }
 {
     let line = value_line(alloc, &value)?;
     tally.add(line)
 }
 
-/// Runs to the next call of the search procedure, and gives its arguments. None where nothing is left.
+/// Runs to the next call of the search procedure, and gives its arguments. None where nothing is left, or no more values are wanted.
 fn advance<'a>(
     alloc: Global,
     program: &Program,
@@ -54,6 +56,9 @@ fn advance<'a>(
     ensures splits { OnOk result (tally.new.splits ≡ tally.old.splits) }
 {
     loop {
+        if tally.has_all() {
+            return Ok(None);
+        }
         match step(alloc, program, machine)? {
             Move::Goes => {}
             Move::Finds(value) => count(alloc, tally, value)?,
@@ -83,7 +88,8 @@ fn enter<'a>(
     Ok(())
 }
 
-/// Runs a program at an input that meets the input condition, with so much fuel.
+/// Runs a program at an input that meets the input condition, with so much fuel. Where so many values are found as the program
+/// wants, the run has come to its end.
 ///
 /// # Errors
 ///
@@ -96,7 +102,6 @@ pub fn run_at<'a>(
 ) -> Result<Ended, Memory>
     requires runs { IsRunnable (plain_program program.now) }
     requires fits { Fits (plain_program program.now).inputs (bound (plain_program program.now).inputs (map plain inputs.now)) }
-    requires fuel { fuel < 2 ^ 63 }
     ensures { IfOk result (λ e. ending e.tally e.whole ≡ account [] 0 0 (run_of (plain_program program.now) (bound (plain_program program.now).inputs (map plain inputs.now)) fuel)) }
 {
     let mut machine = Machine {
@@ -104,7 +109,7 @@ pub fn run_at<'a>(
         stmts: program.main.items(),
         frames: Vec::new(alloc),
     };
-    let mut tally = Tally::new(alloc);
+    let mut tally = Tally::new(alloc, program.first);
     let mut left = fuel;
     loop {
         let Some(values) = advance(alloc, program, &mut machine, &mut tally)? else {

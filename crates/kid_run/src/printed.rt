@@ -1,5 +1,5 @@
 //! What is printed and reported of one input.
-ghost use Rattle.std.specs.Prelude.{◌≡◌, ◌<◌, ◌^◌, ◌∷◌, [], IfOk};
+ghost use Rattle.std.specs.Prelude.{◌≡◌, ◌∷◌, [], IfOk};
 ghost use Rattle.kid_term.specs.Eval.{bound};
 ghost use Rattle.kid_term.specs.Fitting.{AreOfSorts};
 ghost use Rattle.kid_prog.specs.ProgramView.{plain_program};
@@ -8,7 +8,7 @@ ghost use Rattle.kid_run.specs.Account.{account, ending};
 ghost use Rattle.kid_run.specs.InputReading.{sorts_of};
 ghost use Rattle.kid_run.specs.Lines.{input_lines, run_lines, outside_line};
 ghost use Rattle.kid_run.specs.Reporting.{input_entry, run_entry};
-ghost use Rattle.kid_run.specs.Running.{Run};
+ghost use Rattle.kid_prog.specs.Running.{Run};
 ghost use Rattle.kid_run.specs.declared.report.Outcome.TheVariants.{Outside};
 
 use crate::lines::{closing_line, fuel_line, outside_line};
@@ -83,7 +83,6 @@ pub fn run_input(
 ) -> Result<Printed, Memory>
     requires runs { IsRunnable (plain_program program.now) }
     requires fits { AreOfSorts (sorts_of (plain_program program.now).inputs) input.now }
-    requires fuel { fuel < 2 ^ 63 }
     ensures lines { IfOk result (λ p. p.lines.items ≡ input_lines (plain_program program.now) fuel (bound (plain_program program.now).inputs input.now)) }
     ensures entry { IfOk result (λ p. p.entry ≡ input_entry (plain_program program.now) fuel (bound (plain_program program.now).inputs input.now)) }
 {

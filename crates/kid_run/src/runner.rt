@@ -1,4 +1,4 @@
-ghost use Rattle.std.specs.Prelude.{◌≡◌, ◌<◌, ◌≤◌, ◌++◌, ◌^◌, IfOk, OnOk, IsErrOf, option_map};
+ghost use Rattle.std.specs.Prelude.{◌≡◌, ◌≤◌, ◌++◌, IfOk, OnOk, IsErrOf, option_map};
 ghost use Rattle.std.specs.Bool.{OnFalse};
 ghost use Rattle.kid_outer.specs.Causes.{Rose};
 ghost use Rattle.kid_outer.specs.Written.{AppendsPrefix};
@@ -45,8 +45,8 @@ impl<T: Drop> From<AllocFailed<T>> for RunFault {
 }
 
 /// Runs a program on each input in order, with so much fuel for each, of which each call of the search procedure takes one.
-/// Puts a line for each value that is found, and then one that closes the run: `(answers K splits C)`, or `(fuel N)` where the
-/// fuel ran out. For an input that does not meet the input condition it puts `(outside)`. Each line is one put.
+/// Where the program wants so many values, a run has come to its end once it has found them. Puts a line for each value that is
+/// found, and then one that closes the run: `(answers K splits C)`, or `(fuel N)` where the fuel ran out. For an input that does not meet the input condition it puts `(outside)`. Each line is one put.
 ///
 /// # Errors
 ///
@@ -61,7 +61,6 @@ pub fn run<O: Sink>(
 ) -> Result<Report, RunFault>
     requires runnable { IsRunnable (plain_program program.now) }
     requires fit { AllFit (plain_program program.now).inputs inputs.now }
-    requires fuel { fuel < 2 ^ 63 }
     ensures report { IfOk result (λ r. r.entries.items ≡ report_of (plain_program program.now) fuel (envs_of (plain_program program.now).inputs inputs.now)) }
     ensures text { OnOk result (O.written out.new ≡ option_map (λ w. w ++ run_text (plain_program program.now) fuel (envs_of (plain_program program.now).inputs inputs.now)) (O.written out.old)) }
     ensures front { AppendsPrefix (run_text (plain_program program.now) fuel (envs_of (plain_program program.now).inputs inputs.now)) (O.written out.old) (O.written out.new) }

@@ -2,6 +2,8 @@
 #![tactic(auto)]
 
 #[cfg(test)]
+mod first;
+#[cfg(test)]
 mod fuel;
 #[cfg(test)]
 mod inputs;

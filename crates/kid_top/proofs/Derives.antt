@@ -1,7 +1,8 @@
 -- What is saved where a theory is derived: the texts of the derivation and of a program that solves the theory.
 use Rattle.std.proofs.Common.{◌≡◌, ◌≢◌, ℕ, ℤ, Bool, true, false, List, Option, Some, Result, Ok, refl, sym, ap, ◌∙◌, subst, arith}
-use Rattle.std.specs.Prelude.{if◌then◌else◌}
+use Rattle.std.specs.Prelude.{nat_le, if◌then◌else◌}
 use Rattle.std.specs.Str.{bytes_eq}
+use Rattle.std.proofs.lemmas.Bool.Decides.{nat_tests}
 use Rattle.kid_outer.specs.Held.{Held, update}
 use Rattle.kid_term.specs.Eval.{Env}
 use Rattle.kid_codec.proofs.Numbers.{bytes_eq-itself, bytes_eq-true}
@@ -17,7 +18,9 @@ use Rattle.kid_top.specs.Finishing.{WorkSaves}
 use Rattle.kid_top.specs.Outcome.{Work, saves, theory_stage, script_program, derive_theory, derive_work}
 use Rattle.kid_top.specs.Printed.{FindsAnswers, Implements}
 use Rattle.kid_top.specs.RangeSearch.{range_count}
-use Rattle.kid_top.proofs.EmittedSearch.{Searchable, emitted-answer, emitted-whole}
+use Rattle.kid_top.specs.TheoryAt.{relates_at}
+use Rattle.kid_top.proofs.EmittedSearch.{Searchable, emitted-whole}
+use Rattle.kid_top.proofs.Headline.{emitted-answer}
 use Rattle.kid_top.proofs.Outcomes.{bind_ok, same_ok, stage_theory, script_searches}
 use Rattle.kid_top.proofs.Searches.{Searches}
 
@@ -25,8 +28,10 @@ use Rattle.kid_top.proofs.Searches.{Searches}
 
 emitted_finds : (t : PlainTheory) (lo hi : ℤ) (x : Env) → Searchable t lo hi → FindsAnswers t (emitted t lo hi) x
 emitted_finds t lo hi x can =
-    let whole = emitted-whole t lo hi x (range_count (lo, hi)) can (omega arith) in
-    record { fuel = range_count (lo, hi); answer = emitted-answer t lo hi x (range_count (lo, hi)) can whole; whole = whole }
+    let n : ℕ = range_count (relates_at t x) t.spec.first (lo, hi) in
+    let enough : nat_le n n ≡ true = grind (arith, nat_tests) in
+    let whole = emitted-whole t lo hi x n can ∙ enough in
+    record { fuel = n; answer = emitted-answer t lo hi x n can whole; whole = whole }
 
 pub searched_implements : (t : PlainTheory) (p : PlainProgram) → Searches t p → Implements t p
 searched_implements t p s x = subst (λ (q : PlainProgram). FindsAnswers t q x) (sym s.is) (emitted_finds t s.lo s.hi x s.can)

@@ -15,10 +15,10 @@ use Rattle.kid_term.specs.Substitution.{replaced, captures}
 use Rattle.kid_term.proofs.SimultaneousLemmas.{eval-substituted}
 use Rattle.kid_term.proofs.SortedValue.{sort_of_ok}
 use Rattle.kid_kernel.specs.PlainTheory.{PlainTheory}
-use Rattle.kid_run.specs.Running.{Event, called, found, procedure}
-use Rattle.kid_top.specs.Answer.{theory_calls, relates_at}
+use Rattle.kid_prog.specs.Events.{Event, called, found, procedure}
 use Rattle.kid_top.specs.RangeSearch.{middle}
 use Rattle.kid_top.specs.Emitted.{emitted, leaf, is_apart, takes_leaf}
+use Rattle.kid_top.specs.TheoryAt.{theory_calls, relates_at}
 use Rattle.kid_top.proofs.Scopes.{eval-in_scope, names-differ}
 
 -- the theory's program searches its sort
@@ -98,11 +98,11 @@ both-halves false lower upper = refl
 
 pub call-is : (t : PlainTheory) (lo hi : ℤ) (x : Env) (n : ℕ) (l h : ℤ) → Searchable t lo hi → lo ≤ℤ l → l ≤ℤ hi
     → begun t lo hi x (suc n) l h
-    ≡ one_call (int_eq l h && relates_at (theory_calls t) x t.spec.output t.spec.relation l) (int l) (int_lt l h) (begun t lo hi x n l (middle l h)) (begun t lo hi x n (middle l h +ℤ pos 1) h)
+    ≡ one_call (int_eq l h && relates_at t x l) (int l) (int_lt l h) (begun t lo hi x n l (middle l h)) (begun t lo hi x n (middle l h +ℤ pos 1) h)
 call-is t lo hi x n l h can low high =
     call-computes t lo hi x n l h
     ∙ ap₂ (λ es fs. called ∷ (es ++ fs))
     (ap₂ (λ good v. cond (int_eq l h) (cond good (found v ∷ []) [] ++ []) [])
     (ap truth_of (relation-value t lo hi x l h can low high)) (cast-keeps t.spec.sort lo hi l can.of_sort low high)
-    ∙ both-tests (int_eq l h) (relates_at (theory_calls t) x t.spec.output t.spec.relation l) (int l))
+    ∙ both-tests (int_eq l h) (relates_at t x l) (int l))
     (both-halves (int_lt l h) (begun t lo hi x n l (middle l h)) (begun t lo hi x n (middle l h +ℤ pos 1) h))

@@ -6,54 +6,32 @@ use Rattle.kid_outer.specs.Held.{Held}
 use Rattle.kid_codec.proofs.Found.{same_some, if_some, if_else}
 use Rattle.kid_codec.proofs.Numbers.{bytes_eq-itself}
 use Rattle.kid_top.specs.Command.{Command, derive, run, solve, given_fuel, derive_words, fuel_of, command_of_two, command_of_three, command_of_four, command_of_five, command_of}
-use Rattle.kid_top.specs.Done.{Does, DoesHeld, SolvesHeld, CutsHeld, DerivesHeld}
+use Rattle.kid_top.specs.Done.{Does, DoesHeld, SolvesHeld, DerivesHeld}
 use Rattle.kid_top.specs.Finishing.{WorkSaves}
 use Rattle.kid_top.specs.Outcome.{Work, work_of, outcome_of, Outcomes}
-use Rattle.kid_top.proofs.CutTexts.{solve_cuts}
 use Rattle.kid_top.proofs.Derives.{derive_held}
 use Rattle.kid_top.proofs.Headline.{solve_texts}
 
 -- ---- solving
 
-command_solves : (command : Option Command) (files : Held) (status : ℕ) (old new : Option (List ℕ)) → status ≡ 0 → Does (outcome_of command files) status old new
-    → SolvesHeld command (Some files) old new
-command_solves None files status old new done d = tt
-command_solves (Some (derive theory script derivation program)) files status old new done d = tt
-command_solves (Some (run program inputs fuel)) files status old new done d = tt
-command_solves (Some (solve theory script inputs fuel)) files status old new done d =
-    solve_texts files theory script inputs fuel d.work old new d.comes (sym d.status_is ∙ done) d.printed
+command_solves : (command : Option Command) (files : Held) (status : ℕ) (old new : Option (List ℕ)) → Does (outcome_of command files) status old new
+    → SolvesHeld command (Some files) status old new
+command_solves None files status old new d = tt
+command_solves (Some (derive theory script derivation program)) files status old new d = tt
+command_solves (Some (run program inputs fuel)) files status old new d = tt
+command_solves (Some (solve theory script inputs fuel)) files status old new d = solve_texts files theory script inputs fuel d.work status old new d.comes d.status_is d.printed
 
-none_solves : (command : Option Command) (old new : Option (List ℕ)) → SolvesHeld command None old new
-none_solves None old new = tt
-none_solves (Some (derive theory script derivation program)) old new = tt
-none_solves (Some (run program inputs fuel)) old new = tt
-none_solves (Some (solve theory script inputs fuel)) old new = tt
+none_solves : (command : Option Command) (status : ℕ) (old new : Option (List ℕ)) → SolvesHeld command None status old new
+none_solves None status old new = tt
+none_solves (Some (derive theory script derivation program)) status old new = tt
+none_solves (Some (run program inputs fuel)) status old new = tt
+none_solves (Some (solve theory script inputs fuel)) status old new = tt
 
--- with the status 0 a theory was solved
-pub solves_held : (words : List (List ℕ)) (files : Option Held) (status : ℕ) (old new : Option (List ℕ)) → status ≡ 0 → DoesHeld words files status old new
-    → SolvesHeld (command_of words) files old new
-solves_held words None status old new done d = none_solves (command_of words) old new
-solves_held words (Some files) status old new done d = command_solves (command_of words) files status old new done d
-
--- with the status 4 it was, as far as the fuel reached
-command_cuts : (command : Option Command) (files : Held) (status : ℕ) (old new : Option (List ℕ)) → status ≡ 4 → Does (outcome_of command files) status old new
-    → CutsHeld command (Some files) old new
-command_cuts None files status old new done d = tt
-command_cuts (Some (derive theory script derivation program)) files status old new done d = tt
-command_cuts (Some (run program inputs fuel)) files status old new done d = tt
-command_cuts (Some (solve theory script inputs fuel)) files status old new done d =
-    solve_cuts files theory script inputs fuel d.work old new d.comes (sym d.status_is ∙ done) d.printed
-
-none_cuts : (command : Option Command) (old new : Option (List ℕ)) → CutsHeld command None old new
-none_cuts None old new = tt
-none_cuts (Some (derive theory script derivation program)) old new = tt
-none_cuts (Some (run program inputs fuel)) old new = tt
-none_cuts (Some (solve theory script inputs fuel)) old new = tt
-
-pub cuts_held : (words : List (List ℕ)) (files : Option Held) (status : ℕ) (old new : Option (List ℕ)) → status ≡ 4 → DoesHeld words files status old new
-    → CutsHeld (command_of words) files old new
-cuts_held words None status old new done d = none_cuts (command_of words) old new
-cuts_held words (Some files) status old new done d = command_cuts (command_of words) files status old new done d
+-- where the work of solving was done, a theory was solved
+pub solves_held : (words : List (List ℕ)) (files : Option Held) (status : ℕ) (old new : Option (List ℕ)) → DoesHeld words files status old new
+    → SolvesHeld (command_of words) files status old new
+solves_held words None status old new d = none_solves (command_of words) status old new
+solves_held words (Some files) status old new d = command_solves (command_of words) files status old new d
 
 -- ---- deriving
 

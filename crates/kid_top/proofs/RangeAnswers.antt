@@ -1,19 +1,24 @@
--- What the search of a theory's integers finds is the answer.
-use Rattle.std.proofs.Common.{◌≡◌, suc, Bool, true, false, ◌&&◌, ◌||◌, List, [], ◌∷◌, map, refl, sym, ap, ◌∙◌, subst, arith}
+-- What the search of a theory's integers can find is all answers, and what it finds are those that are wanted.
+use Rattle.std.proofs.Common.{◌≡◌, ℕ, suc, Bool, true, false, ◌&&◌, ◌||◌, List, [], ◌∷◌, map, Option, Some, None, refl, sym, ap, ◌∙◌, subst, arith}
 use Rattle.std.specs.Prelude.{ℤ, pos, ◌+ℤ◌, ◌≤ℤ◌, ◌<ℤ◌, int_le}
 use Rattle.std.specs.Int.{int_gap}
 use Rattle.std.specs.Ordering.{int_eq, int_cmp}
 use Rattle.std.specs.declared.cmp.Ordering.TheVariants.{Less}
 use Rattle.std.proofs.lemmas.Int.{ints as int_rules}
+use Rattle.std.proofs.lemmas.List.{take-map}
 use Rattle.kid_value.specs.PlainValue.{PlainValue, PlainValues, PlainEntries, int, bool, pair, set, seq, map_of}
 use Rattle.kid_value.specs.PlainSort.{PlainSort, ints}
 use Rattle.kid_value.specs.InSort.{in_sort}
 use Rattle.kid_value.specs.ValueSet.{is_member, AllAfter, Ascends}
+use Rattle.kid_term.specs.Answer.{relates, AllAnswers, first_of}
 use Rattle.kid_term.specs.Eval.{Env}
 use Rattle.kid_kernel.specs.PlainTheory.{PlainTheory}
-use Rattle.kid_top.specs.RangeSearch.{range_search}
-use Rattle.kid_top.specs.Answer.{theory_calls, relates, relates_at, Answer}
+use Rattle.kid_top.specs.Printed.{AreAnswers}
+use Rattle.kid_top.specs.RangeSearch.{Interval, range_leaf, range_kids, range_search, range_visited}
+use Rattle.kid_top.specs.Search.{visited}
+use Rattle.kid_top.specs.TheoryAt.{theory_calls, relates_at}
 use Rattle.kid_top.proofs.Ranges.{Within, range-within, is_in, is_in-below, is_in-above, range-exact}
+use Rattle.kid_top.proofs.VisitLists.{leaves, visit_holds, leaves_wanted}
 
 cmp-less : (z y : ℤ) → z <ℤ y → int_cmp z y ≡ Less
 cmp-less z y lt = grind (arith, int_rules)
@@ -65,24 +70,46 @@ exact-int good lo hi z zs w inside true false e f = is_in-above z lo hi zs w (le
 exact-int good lo hi z zs w inside false b e f = is_in-below z lo hi zs w (le-false lo z e)
 
 range-answer : (t : PlainTheory) (x : Env) (lo hi : ℤ) → lo ≤ℤ hi
-    → (v : PlainValue) → is_member v (map int (range_search (relates_at (theory_calls t) x t.spec.output t.spec.relation) (lo, hi))) ≡ (in_sort (ints lo hi) v && relates t x v)
-range-answer t x lo hi le (bool b) = no_bool b (range_search (relates_at (theory_calls t) x t.spec.output t.spec.relation) (lo, hi))
-range-answer t x lo hi le (pair v w) = no_pair v w (range_search (relates_at (theory_calls t) x t.spec.output t.spec.relation) (lo, hi))
-range-answer t x lo hi le (set vs) = no_set vs (range_search (relates_at (theory_calls t) x t.spec.output t.spec.relation) (lo, hi))
-range-answer t x lo hi le (seq vs) = no_seq vs (range_search (relates_at (theory_calls t) x t.spec.output t.spec.relation) (lo, hi))
-range-answer t x lo hi le (map_of es) = no_map es (range_search (relates_at (theory_calls t) x t.spec.output t.spec.relation) (lo, hi))
+    → (v : PlainValue) → is_member v (map int (range_search (relates_at t x) (lo, hi))) ≡ (in_sort (ints lo hi) v && relates (theory_calls t) t.spec x v)
+range-answer t x lo hi le (bool b) = no_bool b (range_search (relates_at t x) (lo, hi))
+range-answer t x lo hi le (pair v w) = no_pair v w (range_search (relates_at t x) (lo, hi))
+range-answer t x lo hi le (set vs) = no_set vs (range_search (relates_at t x) (lo, hi))
+range-answer t x lo hi le (seq vs) = no_seq vs (range_search (relates_at t x) (lo, hi))
+range-answer t x lo hi le (map_of es) = no_map es (range_search (relates_at t x) (lo, hi))
 range-answer t x lo hi le (int z) =
-    member-int z (range_search (relates_at (theory_calls t) x t.spec.output t.spec.relation) (lo, hi))
-    ∙ exact-int (relates_at (theory_calls t) x t.spec.output t.spec.relation) lo hi z (range_search (relates_at (theory_calls t) x t.spec.output t.spec.relation) (lo, hi))
-    (range-within (relates_at (theory_calls t) x t.spec.output t.spec.relation) (suc (int_gap lo hi)) lo hi le)
-    (λ low high. range-exact (relates_at (theory_calls t) x t.spec.output t.spec.relation) (suc (int_gap lo hi)) lo hi z (omega arith) low high)
+    member-int z (range_search (relates_at t x) (lo, hi))
+    ∙ exact-int (relates_at t x) lo hi z (range_search (relates_at t x) (lo, hi))
+    (range-within (relates_at t x) (suc (int_gap lo hi)) lo hi le)
+    (λ low high. range-exact (relates_at t x) (suc (int_gap lo hi)) lo hi z (omega arith) low high)
     (int_le lo z) (int_le z hi) refl refl
 
 -- for a theory whose output is an integer from lo to hi
-pub range-answers : (t : PlainTheory) (x : Env) (lo hi : ℤ) → t.spec.sort ≡ ints lo hi → lo ≤ℤ hi → Answer t x (map int (range_search (relates_at (theory_calls t) x t.spec.output t.spec.relation) (lo, hi)))
-range-answers t x lo hi is le =
-    let zs = range_search (relates_at (theory_calls t) x t.spec.output t.spec.relation) (lo, hi) in
+range-all : (t : PlainTheory) (x : Env) (lo hi : ℤ) → t.spec.sort ≡ ints lo hi → lo ≤ℤ hi → AllAnswers (theory_calls t) t.spec x (map int (range_search (relates_at t x) (lo, hi)))
+range-all t x lo hi is le =
+    let zs = range_search (relates_at t x) (lo, hi) in
     record {
-      ascends = ascending lo hi zs (range-within (relates_at (theory_calls t) x t.spec.output t.spec.relation) (suc (int_gap lo hi)) lo hi le);
-      exact = λ v. subst (λ (s : PlainSort). is_member v (map int zs) ≡ (in_sort s v && relates t x v)) (sym is) (range-answer t x lo hi le v);
+      ascends = ascending lo hi zs (range-within (relates_at t x) (suc (int_gap lo hi)) lo hi le);
+      exact = λ v. subst (λ (s : PlainSort). is_member v (map int zs) ≡ (in_sort s v && relates (theory_calls t) t.spec x v)) (sym is) (range-answer t x lo hi le v);
+    }
+
+first-map : {X Y : Type 0} (f : X → Y) (first : Option ℕ) (xs : List X) → first_of first (map f xs) ≡ map f (first_of first xs)
+first-map f None xs = refl
+first-map f (Some k) xs = take-map f k xs
+
+-- what the descriptors hold that the search visits where so many answers are wanted
+abbrev pub range_wanted : (ℤ → Bool) → Option ℕ → Interval → List ℤ
+range_wanted good first d = leaves (range_leaf good) (range_visited good first d)
+
+pub range-answers : (t : PlainTheory) (x : Env) (lo hi : ℤ) → t.spec.sort ≡ ints lo hi → lo ≤ℤ hi → AreAnswers t x (map int (range_wanted (relates_at t x) t.spec.first (lo, hi)))
+range-answers t x lo hi is le =
+    let good : ℤ → Bool = relates_at t x in
+    let n : ℕ = suc (int_gap lo hi) in
+    record {
+      all = map int (range_search good (lo, hi));
+      are_all = range-all t x lo hi is le;
+      first = sym (
+          first-map int t.spec.first (range_search good (lo, hi))
+          ∙ ap (λ zs. map int (first_of t.spec.first zs)) (visit_holds (range_leaf good) range_kids n (lo, hi))
+          ∙ ap (map int) (leaves_wanted (range_leaf good) t.spec.first (visited range_kids n (lo, hi)))
+      );
     }

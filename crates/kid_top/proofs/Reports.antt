@@ -9,7 +9,7 @@ use Rattle.kid_run.specs.declared.report.Outcome.TheVariants.{Done, Fuel, Outsid
 use Rattle.kid_run.specs.declared.report.RunEntry.{RunEntry}
 use Rattle.kid_run.specs.Lines.{is_inside}
 use Rattle.kid_run.specs.Reporting.{run_entry, report_of}
-use Rattle.kid_run.specs.Running.{Run, run_of}
+use Rattle.kid_prog.specs.Running.{Run, run_of}
 use Rattle.kid_top.specs.Finishing.{ran_out, report_status}
 use Rattle.kid_top.specs.Outcome.{runs, is_whole, work_status}
 

@@ -1,5 +1,6 @@
 -- What was done where the work was: what the files said, what was put, and what was saved.
-use Rattle.std.specs.Prelude.{◌≡◌, ◌<◌, ℕ, List, ◌++◌, Option, Some, None, Result, Ok, option_map, ⊤}
+use Rattle.std.specs.Prelude.{◌≡◌, ℕ, List, ◌++◌, Option, Some, None, Result, Ok, option_map, if◌then◌else◌, ⊤}
+use Rattle.std.specs.List.{list_all}
 use Rattle.kid_outer.specs.Held.{Held}
 use Rattle.kid_term.specs.Eval.{Env}
 use Rattle.kid_kernel.specs.PlainTheory.{PlainTheory}
@@ -9,7 +10,7 @@ use Rattle.kid_top.specs.declared.stop.Stop.{Stop}
 use Rattle.kid_top.specs.Derivation.{derivation_text}
 use Rattle.kid_top.specs.Command.{Command, derive, solve}
 use Rattle.kid_top.specs.Outcome.{Work, saves, work_status, work_text, theory_stage, inputs_stage, script_program, run_work, solve_work, derive_work, outcome}
-use Rattle.kid_top.specs.Printed.{splits_in, Texts, CutTexts, Implements}
+use Rattle.kid_top.specs.Printed.{is_answered, Texts, Implements}
 
 -- The work is that of the words and files, the status is its, and its text was put, and nothing else.
 pub record Does (o : Result Work Stop) (status : ℕ) (old new : Option (List ℕ)) : Type 0 where
@@ -23,8 +24,9 @@ abbrev pub DoesHeld : List (List ℕ) → Option Held → ℕ → Option (List �
 DoesHeld words None status old new = ⊤
 DoesHeld words (Some files) status old new = Does (outcome words files) status old new
 
--- The theory and the inputs are those of the files, and what was put is a text of the answers for each input, and nothing else.
-pub record Solved (files : Held) (theory script inputs : List ℕ) (fuel : ℕ) (old new : Option (List ℕ)) : Type 0 where
+-- The theory and the inputs are those of the files, and what was put is a text of the answers for each input, and nothing else. The status
+-- tells whether the fuel was enough for each.
+pub record Solved (files : Held) (theory script inputs : List ℕ) (fuel status : ℕ) (old new : Option (List ℕ)) : Type 0 where
   pub of_theory : PlainTheory
   pub theory_read : theory_stage 1 (files theory) ≡ Ok of_theory
   pub program : PlainProgram
@@ -34,27 +36,11 @@ pub record Solved (files : Held) (theory script inputs : List ℕ) (fuel : ℕ) 
   pub text : List ℕ
   pub answers : Texts of_theory program fuel of_inputs text
   pub printed : new ≡ option_map (λ w. w ++ text) old
+  pub status_is : status ≡ (if list_all (is_answered of_theory fuel) of_inputs then 0 else 4)
 
-abbrev pub SolvesHeld : Option Command → Option Held → Option (List ℕ) → Option (List ℕ) → Type 0
-SolvesHeld (Some (solve theory script inputs fuel)) (Some files) old new = Solved files theory script inputs fuel old new
-SolvesHeld command files old new = ⊤
-
--- The fuel is less than the search takes. What was put is, for each input that is taken, a text of its first answers, and nothing else.
-pub record CutOff (files : Held) (theory script inputs : List ℕ) (fuel : ℕ) (old new : Option (List ℕ)) : Type 0 where
-  pub of_theory : PlainTheory
-  pub theory_read : theory_stage 1 (files theory) ≡ Ok of_theory
-  pub program : PlainProgram
-  pub derived : script_program of_theory (files script) ≡ Ok program
-  pub of_inputs : List Env
-  pub inputs_read : inputs_stage 3 of_theory.spec.inputs (files inputs) ≡ Ok of_inputs
-  pub short : fuel < splits_in of_theory.spec.sort
-  pub text : List ℕ
-  pub answers : CutTexts of_theory fuel of_inputs text
-  pub printed : new ≡ option_map (λ w. w ++ text) old
-
-abbrev pub CutsHeld : Option Command → Option Held → Option (List ℕ) → Option (List ℕ) → Type 0
-CutsHeld (Some (solve theory script inputs fuel)) (Some files) old new = CutOff files theory script inputs fuel old new
-CutsHeld command files old new = ⊤
+abbrev pub SolvesHeld : Option Command → Option Held → ℕ → Option (List ℕ) → Option (List ℕ) → Type 0
+SolvesHeld (Some (solve theory script inputs fuel)) (Some files) status old new = Solved files theory script inputs fuel status old new
+SolvesHeld command files status old new = ⊤
 
 -- The two names hold the texts of the derivation and of a program that solves the theory.
 pub record Derived (files after : Held) (theory script derivation program : List ℕ) : Type 0 where

@@ -4,7 +4,7 @@ use Rattle.std.specs.Int.{int_gap, int_div_euclid}
 use Rattle.std.specs.List.{flat_map}
 use Rattle.std.specs.Option.{option_to_list}
 use Rattle.std.specs.Ordering.{int_eq}
-use Rattle.kid_top.specs.Search.{visit, visited}
+use Rattle.kid_top.specs.Search.{visit, visited, upto_wanted}
 
 abbrev pub Interval : Type 0
 Interval = ℤ × ℤ
@@ -25,17 +25,21 @@ range_rank d = int_gap d.0 d.1
 abbrev pub range_visit : (ℤ → Bool) → ℕ → ℤ → ℤ → List ℤ
 range_visit good n lo hi = visit (range_leaf good) range_kids n (lo, hi)
 
--- how many descriptors are visited, where at most n visits lie one under another
+-- how many descriptors can be visited, where at most n visits lie one under another
 abbrev pub range_visits : ℕ → ℤ → ℤ → ℕ
 range_visits n lo hi = length (visited range_kids n (lo, hi))
 
--- the search from an interval: what it finds, and how many descriptors it visits
+-- all that the search from an interval can find
 abbrev pub range_search : (ℤ → Bool) → Interval → List ℤ
 range_search good d = visit (range_leaf good) range_kids (suc (range_rank d)) d
 
-abbrev pub range_count : Interval → ℕ
-range_count d = length (visited range_kids (suc (range_rank d)) d)
+-- the descriptors that it visits where so many values are wanted, and how many they are
+abbrev pub range_visited : (ℤ → Bool) → Option ℕ → Interval → List Interval
+range_visited good first d = upto_wanted (range_leaf good) first (visited range_kids (suc (range_rank d)) d)
 
--- what the search finds in the first descriptors that it visits, of which there are so many
-abbrev pub range_found : (ℤ → Bool) → ℕ → Interval → List ℤ
-range_found good n d = flat_map (λ e. option_to_list (range_leaf good e)) (take n (visited range_kids (suc (range_rank d)) d))
+abbrev pub range_count : (ℤ → Bool) → Option ℕ → Interval → ℕ
+range_count good first d = length (range_visited good first d)
+
+-- what it finds in the first of these, of which there are n
+abbrev pub range_found : (ℤ → Bool) → Option ℕ → ℕ → Interval → List ℤ
+range_found good first n d = flat_map (λ e. option_to_list (range_leaf good e)) (take n (range_visited good first d))

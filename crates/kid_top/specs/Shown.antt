@@ -4,6 +4,7 @@ use Rattle.kid_outer.specs.Held.{Held}
 use Rattle.kid_outer.specs.Written.{AppendsPrefix}
 use Rattle.kid_top.specs.declared.stop.Stop.{Stop}
 use Rattle.kid_top.specs.declared.stop.Stop.TheVariants as stop
+use Rattle.kid_top.specs.Command.{Command, derive}
 use Rattle.kid_top.specs.Outcome.{Work, work_text, outcome}
 
 -- a refusal, which comes before anything is put
@@ -21,3 +22,9 @@ text_for (Err e) = []
 abbrev pub PutsFront : List (List ℕ) → Option Held → Option (List ℕ) → Option (List ℕ) → Type 0
 PutsFront words None old new = (text : List ℕ) × AppendsPrefix text old new
 PutsFront words (Some files) old new = AppendsPrefix (text_for (outcome words files)) old new
+
+-- a command that prints nothing, or none
+abbrev pub IsSilent : Option Command → Type 0
+IsSilent None = ⊤
+IsSilent (Some (derive theory script derivation program)) = ⊤
+IsSilent command = ⊥

@@ -1,5 +1,5 @@
 -- What a command of the program stands for, and which commands can be run.
-use Rattle.std.specs.Prelude.{◌≢◌, ◌<◌, ◌^◌}
+use Rattle.std.specs.Prelude.{◌≢◌, ⊤}
 use Rattle.kid_top.specs.declared.words.Command.{Command as Given}
 use Rattle.kid_top.specs.declared.words.Command.TheVariants.{Derive, Run, Solve}
 use Rattle.kid_top.specs.Command.{Command, derive, run, solve}
@@ -9,8 +9,7 @@ plain_command (Derive theory script derivation program) = derive theory.now scri
 plain_command (Run program inputs fuel) = run program.now inputs.now fuel
 plain_command (Solve theory script inputs fuel) = solve theory.now script.now inputs.now fuel
 
--- the fuel fits the machine with room to spare, and the names of two files that are saved differ
+-- the names of two files that are saved differ
 abbrev pub IsUsable : Command → Type 0
 IsUsable (derive theory script derivation program) = derivation ≢ program
-IsUsable (run program inputs fuel) = fuel < 2 ^ 63
-IsUsable (solve theory script inputs fuel) = fuel < 2 ^ 63
+IsUsable command = ⊤

@@ -1,5 +1,5 @@
 -- The work of a call, as contracts see it.
-use Rattle.std.specs.Prelude.{◌≡◌, ◌≢◌, ◌<◌, ◌^◌, ⊤}
+use Rattle.std.specs.Prelude.{◌≡◌, ◌≢◌, ⊤}
 use Rattle.kid_prog.specs.ProgramView.{plain_program}
 use Rattle.kid_prog.specs.Rules.{IsRunnable}
 use Rattle.kid_run.specs.InputReading.{envs_of, AllFit}
@@ -14,7 +14,7 @@ plain_work (Save derivation program derivation_bytes program_bytes) = saves deri
 
 -- what is run can be run, and two names that are saved differ
 abbrev pub IsReady : Given → Type 0
-IsReady (Run program inputs fuel) = IsRunnable (plain_program program) × AllFit (plain_program program).inputs inputs × (fuel < 2 ^ 63)
+IsReady (Run program inputs fuel) = IsRunnable (plain_program program) × AllFit (plain_program program).inputs inputs
 IsReady (Save derivation program derivation_bytes program_bytes) = derivation.now ≢ program.now
 
 -- the work is of the kind that the command asks for

@@ -163,7 +163,7 @@ fn emitted(alloc: Global, theory: &Theory, test: Term, lo: i64, hi: i64) -> Resu
         condition: theory.spec.condition.copy(alloc)?,
         output: theory.spec.output.copy(alloc)?,
         sort: theory.spec.sort.copy(alloc)?,
-        first: None,
+        first: theory.spec.first,
         main: single(alloc, open_call(alloc, number(lo), number(hi))?)?,
         parameters: parameters(alloc, lo, hi)?,
         search,

@@ -1,4 +1,4 @@
-ghost use Rattle.std.specs.Prelude.{◌≡◌, ◌<◌, ◌^◌, option_map, map, length, IfSome};
+ghost use Rattle.std.specs.Prelude.{◌≡◌, option_map, map, length, IfSome};
 ghost use Rattle.std.specs.String.{string_bytes};
 ghost use Rattle.kid_top.specs.Words.{plain_command, IsUsable};
 ghost use Rattle.kid_top.specs.Command.{derive_words, command_of, fuel_of};
@@ -35,8 +35,7 @@ const MAX_FUEL: i64 = 1000000000000;
 
 /// The fuel that two words give.
 fn fuel_of(flag: &str, number: &str) -> Option<u64>
-    ensures fuel { result ≡ fuel_of flag.now number.now }
-    ensures fits { IfSome result (λ n. n < 2 ^ 63) }
+    ensures { result ≡ fuel_of flag.now number.now }
 {
     if flag != "--fuel" {
         return None;

@@ -1,5 +1,5 @@
 //! What a command is to do, once its files are read.
-ghost use Rattle.std.specs.Prelude.{◌≡◌, ◌≢◌, [], ◌<◌, ◌^◌, IfOk, IsErrOf};
+ghost use Rattle.std.specs.Prelude.{◌≡◌, ◌≢◌, [], IfOk, IsErrOf};
 ghost use Rattle.std.specs.Bool.{OnFalse};
 ghost use Rattle.kid_outer.specs.Causes.{NeverFall, Rose};
 ghost use Rattle.kid_kernel.specs.PlainTheory.{plain_theory};
@@ -49,8 +49,7 @@ fn run_inputs<'a, S: Store>(
     file: u8,
     fuel: u64,
 ) -> Result<Work<'a>, Stop>
-    requires runnable { IsRunnable (plain_program program) }
-    requires fuel { fuel < 2 ^ 63 }
+    requires { IsRunnable (plain_program program) }
     ensures outcome { Outcomes (S.held store.old) plain_work result (λ files. run_inputs file (plain_program program) (files inputs.now) fuel) }
     ensures ready { IfOk result IsReady }
     ensures suits { IfOk result (λ w. Suits (run [] inputs.now fuel) (plain_work w)) }
@@ -75,7 +74,6 @@ fn run_work<'a, S: Store>(
     inputs: &str,
     fuel: u64,
 ) -> Result<Work<'a>, Stop>
-    requires { fuel < 2 ^ 63 }
     ensures outcome { Outcomes (S.held store.old) plain_work result (λ files. run_work files program.now inputs.now fuel) }
     ensures ready { IfOk result IsReady }
     ensures suits { IfOk result (λ w. Suits (run program.now inputs.now fuel) (plain_work w)) }
@@ -98,8 +96,7 @@ fn solve_theory<'a, S: Store>(
     inputs: &str,
     fuel: u64,
 ) -> Result<Work<'a>, Stop>
-    requires theory { IsTheory (plain_theory theory.now) }
-    requires fuel { fuel < 2 ^ 63 }
+    requires { IsTheory (plain_theory theory.now) }
     ensures outcome { Outcomes (S.held store.old) plain_work result (λ files. solve_theory files script.now inputs.now fuel (plain_theory theory.now)) }
     ensures ready { IfOk result IsReady }
     ensures suits { IfOk result (λ w. Suits (solve [] script.now inputs.now fuel) (plain_work w)) }
@@ -121,7 +118,6 @@ fn solve_work<'a, S: Store>(
     inputs: &str,
     fuel: u64,
 ) -> Result<Work<'a>, Stop>
-    requires { fuel < 2 ^ 63 }
     ensures outcome { Outcomes (S.held store.old) plain_work result (λ files. solve_work files theory.now script.now inputs.now fuel) }
     ensures ready { IfOk result IsReady }
     ensures suits { IfOk result (λ w. Suits (solve theory.now script.now inputs.now fuel) (plain_work w)) }

@@ -6,6 +6,8 @@ mod called;
 #[cfg(test)]
 mod failures;
 #[cfg(test)]
+mod first;
+#[cfg(test)]
 mod refused;
 #[cfg(test)]
 mod worked;

@@ -35,7 +35,7 @@ fn holds(ended: &Result<Ended, Memory>, name: &str, text: &str) -> bool {
     }
 }
 
-fn derives_texts(
+pub fn derives_texts(
     rt: &impl Abort,
     alloc: Global,
     files: &[(&str, &str)],

@@ -5,7 +5,7 @@ use Rattle.kid_prog.specs.PlainStmt.{stmt_row}
 use Rattle.kid_prog.specs.ProgramView.{plain_program}
 use Rattle.kid_run.specs.Frames.{machine, keeping, waiting}
 use Rattle.kid_run.specs.FrameView.{plain_frames, plain_stmts}
-use Rattle.kid_run.specs.Running.{search_env}
+use Rattle.kid_prog.specs.Events.{search_env}
 use Rattle.kid_run.proofs.machine.enter.Goals as goal
 
 pub returns : goal.returns

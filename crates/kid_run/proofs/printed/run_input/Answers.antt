@@ -8,7 +8,7 @@ use Rattle.kid_prog.specs.ProgramView.{plain_program}
 use Rattle.kid_run.specs.Account.{account}
 use Rattle.kid_run.specs.Lines.{run_lines, outside_line, is_inside}
 use Rattle.kid_run.specs.Reporting.{run_entry}
-use Rattle.kid_run.specs.Running.{run_of}
+use Rattle.kid_prog.specs.Running.{run_of}
 use Rattle.kid_run.specs.declared.report.Outcome.TheVariants.{Outside}
 use Rattle.kid_run.specs.declared.report.RunEntry.{RunEntry}
 use Rattle.kid_run.proofs.Scopes.{AreOfSorts-fit}

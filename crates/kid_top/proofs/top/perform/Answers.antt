@@ -7,6 +7,7 @@ use Rattle.kid_top.specs.WorkView.{plain_work}
 use Rattle.kid_top.proofs.Performed.{front-untouched, gives_work, files-by, derived-by}
 use Rattle.kid_top.specs.Command.{command_of}
 use Rattle.kid_top.proofs.Whole.{whole-untouched, whole-by, leaves-untouched, leaves-by}
+use Rattle.kid_top.proofs.Silent.{silent-by}
 use Rattle.kid_top.proofs.top.perform.Goals as goal
 
 pub returns-in_err-work-clause-front : goal.returns-in_err-work-clause-front
@@ -58,3 +59,8 @@ returns-clause-intact g c = λ e.
     leaves-by (map string_bytes c.args.words.now) (plain_command c.in-Some.command) (plain_work c.in_ok-work.work) (g.S.Store.faults c.args.store.now)
     (g.S.Store.faults c.work_of.new.store) (g.S.Store.faults c.finish.new.store) (g.O.Sink.faults c.args.out.now) (g.O.Sink.faults c.finish.new.out)
     (g.S.Store.held c.args.store.now) (g.S.Store.held c.finish.new.store) c.in-Some.ensures.command c.in_ok-work.ensures.suits c.work_of.ensures.later (c.finish.ensures.failed e)
+
+pub returns-clause-silent : goal.returns-clause-silent
+returns-clause-silent g c =
+    silent-by (map string_bytes c.args.words.now) (plain_command c.in-Some.command) (plain_work c.in_ok-work.work) (g.O.Sink.written c.args.out.now)
+    (g.O.Sink.written c.finish.new.out) c.in-Some.ensures.command c.in_ok-work.ensures.suits c.finish.ensures.front

@@ -1,5 +1,5 @@
--- What a program does: the values that it finds, and the calls of its search procedure.
-use Rattle.std.specs.Prelude.{ℕ, zero, suc, Bool, true, false, List, [], ◌∷◌, ◌++◌, if◌then◌else◌}
+-- What a program does at an input: the calls of its search procedure, and the values that it finds, in their order.
+use Rattle.std.specs.Prelude.{ℕ, zero, suc, List, [], ◌∷◌, ◌++◌, if◌then◌else◌}
 use Rattle.std.specs.List.{flat_map}
 use Rattle.kid_value.specs.PlainValue.{PlainValue}
 use Rattle.kid_value.specs.Rows.Parts.{truth_of, members_of}
@@ -37,29 +37,6 @@ abbrev pub procedure : PlainProgram → Env → ℕ → Procedure
 procedure p x zero vs = called ∷ []
 procedure p x (suc n) vs = called ∷ events (calls_of p.definitions) (procedure p x n) (search_env p x vs) p.search
 
--- what a program does at an input, where calls lie at most n deep
+-- what a program does at an input, where calls lie at most n deep and it goes on whatever it found
 abbrev pub program_events : PlainProgram → Env → ℕ → List Event
 program_events p x n = events (calls_of p.definitions) (procedure p x n) x p.main
-
--- A run: the values that it found in order, how many calls it began, and whether it came to its end.
-pub record Run : Type 0 where
-  pub values : List PlainValue
-  pub calls : ℕ
-  pub whole : Bool
-
-abbrev pub finding : PlainValue → Run → Run
-finding v r = record { values = v ∷ r.values; calls = r.calls; whole = r.whole }
-
-abbrev pub calling : Run → Run
-calling r = record { values = r.values; calls = suc r.calls; whole = r.whole }
-
--- as far as n calls reach: the run stops before the next
-abbrev pub within : ℕ → List Event → Run
-within n [] = record { values = []; calls = 0; whole = true }
-within n (found v ∷ es) = finding v (within n es)
-within zero (called ∷ es) = record { values = []; calls = 0; whole = false }
-within (suc n) (called ∷ es) = calling (within n es)
-
--- the run of a program at an input with so much fuel, of which each call takes one; calls that lie deeper than that are not come to
-abbrev pub run_of : PlainProgram → Env → ℕ → Run
-run_of p x fuel = within fuel (program_events p x fuel)

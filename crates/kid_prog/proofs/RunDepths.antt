@@ -1,38 +1,48 @@
--- How deep calls may lie does not matter beyond the calls that are left.
-use Rattle.std.proofs.Common.{◌≡◌, ℕ, zero, suc, ◌≤◌, Bool, true, false, List, [], ◌∷◌, ◌++◌, refl, sym, ap, ◌∙◌, cond, arith, append_assoc}
+-- How deep calls may lie does not matter beyond the calls that are left, and so a run that came to its end is the same with more fuel.
+use Rattle.std.proofs.Common.{◌≡◌, ℕ, zero, suc, ◌≤◌, Bool, true, false, List, [], ◌∷◌, ◌++◌, Option, Some, None, refl, sym, ap, ◌∙◌, cond, arith, append_assoc, append-nil}
 use Rattle.std.specs.List.{flat_map}
 use Rattle.kid_value.specs.PlainValue.{PlainValue}
 use Rattle.kid_value.specs.Rows.Parts.{truth_of, members_of}
 use Rattle.kid_term.specs.PlainTerm.{term_row}
 use Rattle.kid_term.specs.Eval.{Env, Calls, eval, evals, calls_of}
+use Rattle.kid_prog.specs.Events.{Event, called, found, Procedure, events, search_env, procedure, program_events}
 use Rattle.kid_prog.specs.PlainStmt.{PlainStmts, no_stmt, stmt, assign, when, each, emit, call}
 use Rattle.kid_prog.specs.PlainProgram.{PlainProgram}
-use Rattle.kid_run.specs.Running.{Event, called, found, Procedure, events, search_env, procedure, program_events, finding, calling, within, run_of}
+use Rattle.kid_prog.specs.Running.{upto_value, finding, calling, within, run_of}
+use Rattle.kid_prog.proofs.EventLists.{within-more}
 
--- as far as l calls reach, the events are the same
+-- as far as l calls reach, the events are the same, however many values are wanted
 abbrev pub Agree : ℕ → List Event → List Event → Type 0
-Agree l es fs = (k : ℕ) → k ≤ l → within k es ≡ within k fs
+Agree l es fs = (w : Option ℕ) (k : ℕ) → k ≤ l → within k (upto_value w es) ≡ within k (upto_value w fs)
 
 -- as far as l calls reach, calls do the same, whatever comes after them
 abbrev pub Alike : ℕ → Procedure → Procedure → Type 0
 Alike l f g = (vs : List PlainValue) (ys zs : List Event) → Agree l ys zs → Agree l (f vs ++ ys) (g vs ++ zs)
 
 agree-found : (l : ℕ) (v : PlainValue) (es fs : List Event) → Agree l es fs → Agree l (found v ∷ es) (found v ∷ fs)
-agree-found l v es fs a k le = ap (finding v) (a k le)
+agree-found l v es fs a None k le = ap (finding v) (a None k le)
+agree-found l v es fs a (Some zero) k le = refl
+agree-found l v es fs a (Some (suc w)) k le = ap (finding v) (a (Some w) k le)
 
 agree-called : (l : ℕ) (es fs : List Event) → Agree l es fs → Agree (suc l) (called ∷ es) (called ∷ fs)
-agree-called l es fs a zero le = refl
-agree-called l es fs a (suc k) le = ap calling (a k (omega (arith, le)))
+agree-called l es fs a None zero le = refl
+agree-called l es fs a None (suc k) le = ap calling (a None k (omega (arith, le)))
+agree-called l es fs a (Some zero) k le = refl
+agree-called l es fs a (Some (suc w)) zero le = refl
+agree-called l es fs a (Some (suc w)) (suc k) le = ap calling (a (Some (suc w)) k (omega (arith, le)))
 
 agree-at_none : (es fs : List Event) → Agree 0 (called ∷ es) (called ∷ fs)
-agree-at_none es fs zero le = refl
-agree-at_none es fs (suc k) le = let none : ⊥ = omega (arith, le) in absurd none
+agree-at_none es fs None zero le = refl
+agree-at_none es fs (Some zero) zero le = refl
+agree-at_none es fs (Some (suc w)) zero le = refl
+agree-at_none es fs w (suc k) le = let none : ⊥ = omega (arith, le) in absurd none
 
 agree-below : (l : ℕ) (es fs : List Event) → Agree (suc l) es fs → Agree l es fs
-agree-below l es fs a k le = a k (omega (arith, le))
+agree-below l es fs a w k le = a w k (omega (arith, le))
 
 agree-assoc : (l : ℕ) (a b ys c d zs : List Event) → Agree l (a ++ (b ++ ys)) (c ++ (d ++ zs)) → Agree l ((a ++ b) ++ ys) ((c ++ d) ++ zs)
-agree-assoc l a b ys c d zs h k le = ap (within k) (append_assoc a b ys) ∙ h k le ∙ sym (ap (within k) (append_assoc c d zs))
+agree-assoc l a b ys c d zs h w k le =
+    ap (λ es. within k (upto_value w es)) (append_assoc a b ys) ∙ h w k le ∙ sym (ap (λ es. within k (upto_value w es)) (append_assoc c d zs))
 
 agree-when : (l : ℕ) (b : Bool) (bs cs ys zs : List Event) → Agree l (bs ++ ys) (cs ++ zs) → Agree l ys zs → Agree l (cond b bs [] ++ ys) (cond b cs [] ++ zs)
 agree-when l true bs cs ys zs h a = h
@@ -77,17 +87,19 @@ procedure-alike p x (suc n) (suc m) le vs ys zs a =
     (events-alike n (calls_of p.definitions) (procedure p x n) (procedure p x m) (procedure-alike p x n m (omega (arith, le))) (search_env p x vs) p.search ys zs (agree-below n ys zs a))
 
 -- what comes of statements with other events after them is the same at every depth from the calls left on
-pub within-deeper : (p : PlainProgram) (x : Env) (n m : ℕ) → n ≤ m → (defs : Calls) (env : Env) (ss : PlainStmts) (ys : List Event) (l : ℕ) → l ≤ n
-    → within l (events defs (procedure p x n) env ss ++ ys) ≡ within l (events defs (procedure p x m) env ss ++ ys)
-within-deeper p x n m le defs env ss ys l within = events-alike n defs (procedure p x n) (procedure p x m) (procedure-alike p x n m le) env ss ys ys (λ k b. refl) l within
-
-pub append-none : (es : List Event) → es ++ [] ≡ es
-append-none [] = refl
-append-none (e ∷ es) = ap (λ fs. e ∷ fs) (append-none es)
+pub within-deeper : (p : PlainProgram) (x : Env) (n m : ℕ) → n ≤ m → (defs : Calls) (env : Env) (ss : PlainStmts) (ys : List Event) (w : Option ℕ) (l : ℕ) → l ≤ n
+    → within l (upto_value w (events defs (procedure p x n) env ss ++ ys)) ≡ within l (upto_value w (events defs (procedure p x m) env ss ++ ys))
+within-deeper p x n m le defs env ss ys w l within = events-alike n defs (procedure p x n) (procedure p x m) (procedure-alike p x n m le) env ss ys ys (λ u k b. refl) w l within
 
 -- a run is the same at every depth from its fuel on
-pub run_of-deeper : (p : PlainProgram) (x : Env) (fuel m : ℕ) → fuel ≤ m → run_of p x fuel ≡ within fuel (program_events p x m)
+pub run_of-deeper : (p : PlainProgram) (x : Env) (fuel m : ℕ) → fuel ≤ m → run_of p x fuel ≡ within fuel (upto_value p.first (program_events p x m))
 run_of-deeper p x fuel m le =
-    ap (within fuel) (sym (append-none (program_events p x fuel)))
-    ∙ within-deeper p x fuel m le (calls_of p.definitions) x p.main [] fuel (omega arith)
-    ∙ ap (within fuel) (append-none (program_events p x m))
+    ap (λ es. within fuel (upto_value p.first es)) (sym (append-nil (program_events p x fuel)))
+    ∙ within-deeper p x fuel m le (calls_of p.definitions) x p.main [] p.first fuel (omega arith)
+    ∙ ap (λ es. within fuel (upto_value p.first es)) (append-nil (program_events p x m))
+
+-- a run that came to its end is the same with more fuel
+pub run_of-more : (p : PlainProgram) (x : Env) (n m : ℕ) → n ≤ m → (run_of p x n).whole ≡ true → run_of p x m ≡ run_of p x n
+run_of-more p x n m le whole =
+    let e = run_of-deeper p x n m le in
+    within-more (upto_value p.first (program_events p x m)) n m le (ap (λ r. r.whole) (sym e) ∙ whole) ∙ sym e

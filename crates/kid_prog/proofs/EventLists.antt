@@ -1,7 +1,8 @@
--- What is found in a list of events and how many calls it begins, and when fuel reaches to its end.
-use Rattle.std.proofs.Common.{◌≡◌, ℕ, zero, suc, ◌+◌, ◌≤◌, true, List, [], ◌∷◌, ◌++◌, refl, ap, arith}
+-- Runs of a list of events: how much fuel reaches to its end, and where the values that are wanted end it.
+use Rattle.std.proofs.Common.{◌≡◌, ℕ, zero, suc, ◌+◌, ◌≤◌, ◌<◌, Bool, true, false, List, [], ◌∷◌, ◌++◌, Option, Some, None, refl, ap, arith}
 use Rattle.kid_value.specs.PlainValue.{PlainValue}
-use Rattle.kid_run.specs.Running.{Event, called, found, within}
+use Rattle.kid_prog.specs.Events.{Event, called, found}
+use Rattle.kid_prog.specs.Running.{upto_value, finding, calling, within}
 
 abbrev pub values_in : List Event → List PlainValue
 values_in [] = []
@@ -42,3 +43,23 @@ few-whole [] fuel few = refl
 few-whole (found v ∷ es) fuel few = few-whole es fuel few
 few-whole (called ∷ es) zero few = absurd (omega (arith, few))
 few-whole (called ∷ es) (suc fuel) few = few-whole es fuel (omega (arith, few))
+
+pub many-cut : (es : List Event) (fuel : ℕ) → fuel < calls_in es → (within fuel es).whole ≡ false
+many-cut [] fuel many = absurd (omega (arith, many))
+many-cut (found v ∷ es) fuel many = many-cut es fuel many
+many-cut (called ∷ es) zero many = refl
+many-cut (called ∷ es) (suc fuel) many = many-cut es fuel (omega (arith, many))
+
+-- a run that came to its end is the same with more fuel
+pub within-more : (es : List Event) (n m : ℕ) → n ≤ m → (within n es).whole ≡ true → within m es ≡ within n es
+within-more [] n m le whole = refl
+within-more (found v ∷ es) n m le whole = ap (finding v) (within-more es n m le whole)
+within-more (called ∷ es) zero m le whole = cc
+within-more (called ∷ es) (suc n) zero le whole = let none : ⊥ = omega (arith, le) in absurd none
+within-more (called ∷ es) (suc n) (suc m) le whole = ap calling (within-more es n m (omega (arith, le)) whole)
+
+-- however many values are wanted, nothing is done of nothing
+pub upto-none : (w : Option ℕ) → upto_value w [] ≡ []
+upto-none None = refl
+upto-none (Some zero) = refl
+upto-none (Some (suc k)) = refl
