@@ -12,9 +12,11 @@ A folder states its problem once more in `problem.py`, in plain Python that read
     is_input(given)         the input condition; it need not be there where each input is allowed
     splits(given)           how many calls the program makes, counted by a search that is written anew in Python; the
                             splits of a program are compared only where it is there
+    FIRST                   how many answers are asked for, where the theory or program says so
 
 How values stand in Python is told in value_text.py. In a folder that uses `solve` the candidates are all values of the
-output's sort, and there is no `splits`: it is 2N - 1 for N of them.
+output's sort, which are integers, and there is no `splits`: it is the number of intervals that a search by halves visits
+up to the last answer that is asked for, 2N - 1 for N candidates where all are.
 
 Compared are the input file with INPUTS, and `stdout` with the answers: `(outside)` where the input condition is false;
 else just the answers, each once (in ascending order where the folder uses `solve`), their number, and the splits. Nothing
@@ -28,7 +30,7 @@ import re
 import runpy
 import sys
 from collections import Counter
-from typing import Any, Iterator
+from typing import Any, Callable, Iterator
 
 sys.dont_write_bytecode = True  # folders of examples hold files alone
 
@@ -56,20 +58,36 @@ class Problem:
         self.is_answer = stated["is_answer"]
         self.is_input = stated.get("is_input", lambda given: True)
         self.splits = stated.get("splits")
+        self.first: int | None = stated.get("FIRST")
         self.solves = uses_solve(folder)
         if self.solves and self.splits:
             raise Unfit("problem.py has splits, which solve fixes")
 
     def answers(self, given: tuple) -> list[str]:
-        """The texts of all answers at an input, in ascending order."""
+        """The texts of the answers at an input that are asked for, in ascending order."""
         found = [value for value in self.candidates(given) if self.is_answer(given, value)]
-        return [text(value) for value in ascending(found)]
+        return [text(value) for value in ascending(found)[: self.first]]
 
     def count_of_splits(self, given: tuple) -> int | None:
         """How many splits there are to be; None where nothing says it."""
         if self.solves:
-            return 2 * len({text(value) for value in self.candidates(given)}) - 1
+            values = [*self.candidates(given)]
+            return halvings(min(values), max(values), lambda value: self.is_answer(given, value), self.first)
         return self.splits(given) if self.splits else None
+
+
+def halvings(low: int, high: int, is_answer: Callable[[int], bool], wanted: int | None) -> int:
+    """How many intervals a search by halves visits, up to the one that is the last answer that is wanted."""
+    waiting, count, found = [(low, high)], 0, 0
+    while waiting and (wanted is None or found < wanted):
+        low, high = waiting.pop()
+        count += 1
+        if low == high:
+            found += is_answer(low)
+            continue
+        middle = (low + high) // 2
+        waiting += [(middle + 1, high), (low, middle)]
+    return count
 
 
 def uses_solve(folder: pathlib.Path) -> bool:

@@ -29,6 +29,7 @@ ASCENDING = [
     [frozenset(), frozenset({3}), frozenset({2}), frozenset({2, 3}), frozenset({1}), frozenset({1, 2, 3})],
     [frozenset(), frozenset({frozenset({1})}), frozenset({frozenset()})],
     [{}, {3: 1}, {2: 5}, {2: 5, 3: 0}, {2: 6}, {1: 0}, {1: 0, 2: 0}],
+    ["blue", "red", "red-1", "reds"],
 ]
 
 TEXTS = [
@@ -41,6 +42,8 @@ TEXTS = [
     ([3, 1, 3], "(seq 3 1 3)"),
     ([(2, 1), (1, 2)], "(seq (pair 2 1) (pair 1 2))"),
     ({2: [1], 1: []}, "(map (1 (seq)) (2 (seq 1)))"),
+    ({2: "red", 1: "blue"}, "(map (1 'blue) (2 'red))"),
+    (frozenset({"red", "blue"}), "(set 'blue 'red)"),
     ({(2, 1): 0, (1, 9): 4}, "(map ((pair 1 9) 4) ((pair 2 1) 0))"),
 ]
 

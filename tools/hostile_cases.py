@@ -457,7 +457,7 @@ sets ranges inn subsets unions within inters different card-s sums lea seqs lens
 maps domain ra gets puts drops fills fit narrows wen w win-s rde casts al somes image-of summ true-1 fals bools ints
 theories de inputs requires laws axioms give equals hold bye outputs ensures programs mains serach searches lets fo emits calls
 matches filters cuts simple maintains refines lef rights joins againn has copies backs normals closures wants
-unfolds folds computes used fail uncasts never bits row product linear
+unfolds folds computes used fail uncasts never bits row product linear enum first
 """.split()
 
 
@@ -473,9 +473,100 @@ def words_as_names() -> Iterator[Case]:
                    out=b"2\n(answers 1 splits 3)\n")
 
 
+def in_place(text: bytes, old: bytes, new: bytes) -> bytes:
+    """The text with the one place of `old` exchanged."""
+    assert text.count(old) == 1
+    return text.replace(old, new)
+
+
+def first_answers() -> Iterator[Case]:
+    """How many answers are asked for: numbers that may be, others, and other places."""
+    # 7 is the leaf of the 15th interval that is visited, and 2 that of the 6th
+    for many, splits in (("1", (15, 6)), ("2", (19, 19)), ("1000000", (19, 19))):
+        form = f"(first {many})\n".encode()
+        program = in_place(PROGRAM, b"(main", form + b"(main")
+        out = b"7\n(answers 1 splits %d)\n(outside)\n2\n(answers 1 splits %d)\n" % splits
+        yield done(f"solve: the first {many}", SOLVE, files={"t": THEORY + form}, out=out)
+        yield done(f"run: the first {many}", RUN, files={"p": program}, out=out)
+        yield done(f"derive: the first {many}", DERIVE, files={"t": THEORY + form}, saved={"d": DERIVATION, "o": program})
+    for form in ("(first 0)", "(first -1)", "(first 01)", "(first 1000001)", "(first +1)", "(first n)", "(first)", "first",
+                 "(first 1 1)", "(first (1))", "(First 1)", "(first 4611686018427387905)", "(first 18446744073709551617)"):
+        yield Case(f"theory: {form}", SOLVE, *refused("theory", 6, "form"), files={"t": THEORY + form.encode()})
+        yield Case(f"program: {form}", RUN, *refused("program", 5, "form"),
+                   files={"p": in_place(PROGRAM, b"(main", form.encode() + b"(main")})
+    twice = b"(first 1) (first 1)"
+    yield Case("theory: first twice", SOLVE, *refused("theory", 7, "form"), files={"t": THEORY + twice})
+    yield Case("program: first twice", RUN, *refused("program", 6, "form"),
+               files={"p": in_place(PROGRAM, b"(main", twice + b"(main")})
+    yield Case("theory: first before ensure", SOLVE, *refused("theory", 5, "form"),
+               files={"t": in_place(THEORY, b"(ensure", b"(first 1) (ensure")})
+    yield Case("program: first before output", RUN, *refused("program", 4, "form"),
+               files={"p": in_place(PROGRAM, b"(output", b"(first 1) (output")})
+    one = {"t": THEORY + b"(first 1)", "i": b"(49)"}
+    yield done("solve: fuel for the first", SOLVE + ("--fuel", "15"), files=one, out=b"7\n(answers 1 splits 15)\n")
+    yield Case("solve: fuel for one less than the first", SOLVE + ("--fuel", "14"), 4, files=one, out=b"(fuel 14)\n")
+
+
+# finds its own input, which is a tag
+ECHO_TAG = b"""(program 2) (input n (enum a b b-1 bc)) (require true) (output z (enum a b b-1 bc)) (main (call n))
+(search ((m (enum a b b-1 bc))) (emit m))"""
+
+NO_TAGS = ("a", "'c", "'", "''a", "'a'", "(' a)", "('a)", "'A", "'true", "'e1", "'set", "'-a", "'1", "0", "true", '"a"',
+           "'a 'b", "(enum a)", "'" + "a" * 33)
+SIXTY_FOUR = " ".join(f"n-{number:02}" for number in range(64))
+# sorts of names, and the code with which a file is refused that has one
+NAME_SORTS = (("(enum a b)", ""), ("(enum a)", ""), (f"(enum {SIXTY_FOUR})", ""), ("(enum enum first)", ""),
+              (f"(enum {'a' * 32})", ""), ("(enum)", "sort"), ("(enum b a)", "sort"), ("(enum a a)", "sort"),
+              (f"(enum {SIXTY_FOUR} o)", "sort"), ("(enum A)", "form"), ("(enum true)", "form"), ("(enum e1)", "form"),
+              ("(enum (a))", "form"), ("(enum 'a)", "form"), ("(enum a 1)", "form"), ("enum", "form"),
+              ("(enum b a A)", "form"), (f"(enum {'a' * 33})", "form"))
+
+
+def named_values() -> Iterator[Case]:
+    """Tags that are of their sort and words that are none, and sorts of names in and out of order."""
+    for name in ("a", "b", "b-1", "bc"):
+        yield done(f"input: the tag {name}", RUN, files={"p": ECHO_TAG, "i": f"('{name})".encode()},
+                   out=f"'{name}\n(answers 1 splits 1)\n".encode())
+    for word in NO_TAGS:
+        yield Case(f"input: {word}, which is no tag of the sort", RUN, 8, b"(inputs 1)\n",
+                   files={"p": ECHO_TAG, "i": f"({word})".encode()})
+    for sort, code in NAME_SORTS:
+        theory = f"(theory t) (input n {sort}) (require true) (output z (int 1 1)) (ensure true)"
+        program = f"(program 2) (input n {sort}) (require true) (output z bool) (main) (search ())"
+        files = {"t": theory.encode(), "i": b"", "p": program.encode()}
+        for kind, words in (("theory", SOLVE), ("program", RUN)):
+            name = f"{kind}: the sort {sort if len(sort) < 50 else len(sort)}"
+            if code:
+                yield Case(name, words, *refused(kind, 2, code), files=files)
+            else:
+                yield done(name, words, files=files, out=b"")
+
+
+def versions() -> Iterator[Case]:
+    """Programs of each version, with and without tags, and of none."""
+    definitions = (("a sort", b"(def f ((x (enum a))) bool true)", ""), ("a tag", b"(def f () bool (eq 'a 'a))", ""),
+                   ("a cast", b"(def f () bool (eq 1 (cast (enum b a) 1)))", "sort"))
+    for version in (1, 2):
+        front = b"(program %d)" % version
+        yield done(f"version {version} without tags", RUN, files={"p": in_place(PROGRAM, b"(program 1)", front)})
+        for what, form, code in definitions:
+            files = {"p": front + form + b"(require true) (output z bool) (main) (search ())", "i": b""}
+            code = "form" if version == 1 else code
+            if code:
+                yield Case(f"version {version} with {what}", RUN, *refused("program", 2, code), files=files)
+            else:
+                yield done(f"version {version} with {what}", RUN, files=files, out=b"")
+    for front, number, code in (("(program 3)", 1, "version"), ("(program 0)", 1, "version"), ("(program -1)", 1, "version"),
+                                ("(program 02)", 1, "form"), ("(program)", 1, "form"), ("(program 1 2)", 1, "form"),
+                                ("(program 2) (program 2)", 2, "form")):
+        yield Case(f"program: {front}", RUN, *refused("program", number, code),
+                   files={"p": in_place(PROGRAM, b"(program 1)", front.encode())})
+
+
 def all_cases() -> list[Case]:
     """Every case."""
     # those that take long come first, so that none is waited for at the end
     groups = (long_programs, many, without_end, sizes, wrong_words, fuel_words, absent_files, files_that_fail,
-              large_tests, which_is_first, each_byte, brackets, lines, streams, saving, names, words_as_names)
+              large_tests, which_is_first, each_byte, brackets, lines, streams, saving, names, words_as_names, first_answers,
+              named_values, versions)
     return [case for group in groups for case in group()]

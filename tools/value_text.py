@@ -8,6 +8,7 @@ A value stands in Python as
     a set           frozenset of values
     a sequence      list of values
     a map           dict from values to values
+    a tag           str, its name
 """
 
 import re
@@ -63,6 +64,8 @@ def text(value: Value) -> str:
         return "true" if value else "false"
     if isinstance(value, int):
         return str(value)
+    if isinstance(value, str):
+        return "'" + value
     if isinstance(value, tuple):
         return listed("pair", [text(part) for part in value])
     if isinstance(value, list):

@@ -18,6 +18,7 @@ END
 printf '(match range)\n' >range.sc
 printf '; by hand\n\n(program 1)\n(main (for x s (let y x) (emit y) (call filter e12)))\n' >hand.prog
 printf '(match range (low high) 1 10 (by))\n' >square.der
+printf "(program 2)\n(input c (set (enum blue red)))\n(output first (enum enum))\n(first 3)\n(main (emit 'red) (call (in 'Red c)))\n" >tags.prog
 printf '(\nSynthDef("x")\n)\n' >other.sc
 printf 'not of kids\n' >other.prog
 printf '(theory x)\n; \303\251 x\n' >bytes.th
@@ -58,6 +59,8 @@ call assert_equal('kidsBadByte', synIDattr(synID(2, 3, 1), 'name'), 'a byte that
 call Groups('hand.prog', [[3, '1', 'kidsNumber'], [4, 'main', 'kidsForm'], [4, 'for', 'kidsRepeat'],
   \ [4, 'x', 'kidsBound'], [4, 'let', 'kidsStatement'], [4, 'y', 'kidsBound'], [4, 'emit', 'kidsStatement'],
   \ [4, 'filter', 'kidsReserved'], [4, 'e12', 'kidsReserved']])
+call Groups('tags.prog', [[2, 'set', 'kidsSort'], [2, 'enum', 'kidsSort'], [2, 'blue', 'kidsName'], [3, 'first', 'kidsDeclared'],
+  \ [3, 'enum enum', 'kidsSort'], [3, 'enum)', 'kidsName'], [4, 'first', 'kidsForm'], [5, "'red", 'kidsTag'], [5, "'Red", 'kidsBadWord']])
 call assert_equal(';\ %s', escape(&commentstring, ' '))
 edit other.sc
 call assert_notequal('kids', &filetype, 'another use of .sc')

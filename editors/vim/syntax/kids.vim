@@ -15,6 +15,9 @@ syntax match kidsName "\<[a-z][a-z0-9-]\{,31}\>"
 syntax match kidsBadNumber "\<[-+]\=\d\+\>"
 syntax match kidsNumber "\<\%(0\|-\=[1-9]\d*\)\>"
 
+" a tag is an apostrophe and a name
+syntax match kidsTag "'[a-z][a-z0-9-]\{,31}\>"
+
 " forms of theories, programs, scripts and derivations
 syntax keyword kidsForm def theory input output axiom nextgroup=kidsDeclared skipwhite skipempty
 syntax keyword kidsForm require given equal holds ensure program main search match by
@@ -37,11 +40,15 @@ syntax keyword kidsBinder all some setof image sumof nextgroup=kidsBound skipwhi
 syntax match kidsOperator "\<\%(pair\|set\|seq\|map\)\>"
 
 " a name and a sort in brackets are a parameter: from there on first members lead down to `bool` or `int`
-syntax match kidsParameter "(\@1<=[a-z][a-z0-9-]\{,31}\>\ze\_s\+\%((\_s*\%(pair\|set\|seq\|map\)\_s\+\)*\%(bool\>\|(\_s*int\>\)"
+syntax match kidsParameter "(\@1<=[a-z][a-z0-9-]\{,31}\>\ze\_s\+\%((\_s*\%(pair\|set\|seq\|map\)\_s\+\)*\%(bool\>\|(\_s*\%(int\|enum\)\>\)"
 
 " sorts; of the words that are operators too, those from which first members lead down as well
 syntax keyword kidsSort bool int
-syntax match kidsSort "\<\%(pair\|set\|seq\|map\)\>\ze\_s\+\%((\_s*\%(pair\|set\|seq\|map\)\_s\+\)*\%(bool\>\|(\_s*int\>\)"
+syntax match kidsSort "\<\%(pair\|set\|seq\|map\)\>\ze\_s\+\%((\_s*\%(pair\|set\|seq\|map\)\_s\+\)*\%(bool\>\|(\_s*\%(int\|enum\)\>\)"
+
+" words with a meaning at the head of a form or a sort alone
+syntax match kidsForm "(\@1<=first\>\ze\_s\+\d\+\_s*)"
+syntax match kidsSort "(\@1<=enum\>"
 
 syntax keyword kidsBoolean true false
 
@@ -65,6 +72,7 @@ highlight default link kidsBadNumber Error
 highlight default link kidsBadBracket Error
 highlight default link kidsBadByte Error
 highlight default link kidsNumber Number
+highlight default link kidsTag Constant
 highlight default link kidsForm Keyword
 highlight default link kidsDeclared Function
 highlight default link kidsBound Identifier
