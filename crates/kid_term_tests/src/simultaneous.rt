@@ -50,7 +50,7 @@ fn substitutes(rt: &impl Abort, alloc: Global, rows: &[(&str, Pairs, &str)]) {
     }
 }
 
-const SUBSTITUTED: [(&str, Pairs, &str); 9] = [
+const SUBSTITUTED: [(&str, Pairs, &str); 10] = [
     ("+xy", &[], "+xy"),
     ("+xy", &[("x", "y"), ("y", "x")], "+yx"),
     ("+x+yz", &[("x", "y"), ("y", "z"), ("z", "x")], "+y+zx"),
@@ -60,6 +60,7 @@ const SUBSTITUTED: [(&str, Pairs, &str); 9] = [
     // the first for a name counts
     ("+xx", &[("x", "y"), ("x", "z")], "+yy"),
     ("3", &[("x", "y")], "3"),
+    (",'xx", &[("x", "y")], ",'xy"),
     // what is called is no name of the environment
     ("@fx", &[("f", "y"), ("x", "f")], "@ff"),
     (":9?xyz", &[("y", "1"), ("z", "T"), ("x", "!x")], ":9?!x1T"),
@@ -126,8 +127,9 @@ fn tells_closed(rt: &impl Abort, alloc: Global, rows: &[(&str, bool)]) {
     }
 }
 
-const CLOSED: [(&str, bool); 10] = [
+const CLOSED: [(&str, bool); 11] = [
     ("3", true),
+    ("'x", true),
     ("x", false),
     ("+1x", false),
     ("@f1", true),
