@@ -4,6 +4,7 @@ use Rattle.std.specs.List.{range_with_len}
 use Rattle.std.specs.Ordering.{is_eq}
 use Rattle.std.specs.Prelude.{not, ◌||◌, ◌&&◌, filter, nat_eq}
 use Rattle.std.proofs.lemmas.Bool.{cases_lt}
+use Rattle.std.proofs.lemmas.Nat.Bits.{bit_at_above}
 use Rattle.kid_value.specs.Contents.{IsSet, has}
 use Rattle.kid_value.specs.PlainValue.{PlainValue, int, set, items}
 use Rattle.kid_value.specs.Rows.Kinds.{natural}
@@ -14,7 +15,7 @@ use Rattle.kid_value.specs.WordLaws.{bit_of, WordLaws}
 use Rattle.kid_value.proofs.MemberLemmas.{is_member-first}
 use Rattle.kid_value.proofs.RowCanonical.{key_before, AllAfter-bits}
 use Rattle.kid_value.proofs.RowLemmas.{items_row}
-use Rattle.kid_value.proofs.RowMeaning.{bit_at-word_of}
+use Rattle.kid_value.proofs.RowMeaning.{bit_at-word_of, word_of-below}
 use Rattle.kid_value.proofs.ValueSetLaws.{is_member-after, value_eq-comm}
 
 -- a word has the bits that pass
@@ -24,6 +25,13 @@ has_bit-word_of p n i l = ap (λ z. nat_eq z 1) (bit_at-word_of p n i l) ∙ by 
     by : (b : Bool) → nat_eq (cond b 1 0) 1 ≡ b
     by true = refl
     by false = refl
+
+has_bit-above : (p : ℕ → Bool) (n i : ℕ) → n ≤ i → has_bit (word_of p n) i ≡ false
+has_bit-above p n i l = ap (λ z. nat_eq z 1) (bit_at_above (word_of p n) n i (word_of-below p n) l)
+
+wenc_above : (lo k : ℤ) (s : PlainValue) (i : ℕ) → IsSet s → natural k ≤ i → bit_of i (rows.wenc (int lo) (int k) s) ≡ false
+wenc_above lo k (set vs) i j l = has_bit-above (λ n. is_member (key_at lo n) (items vs)) (natural k) i l
+wenc_above lo k s i j l = absurd j
 
 wenc_told : (lo k : ℤ) (s : PlainValue) (i : ℕ) → IsSet s → i < natural k → bit_of i (rows.wenc (int lo) (int k) s) ≡ has (key_at lo i) s
 wenc_told lo k (set vs) i j l = has_bit-word_of (λ n. is_member (key_at lo n) (items vs)) (natural k) i l
@@ -58,7 +66,13 @@ laws =
     record {
       wenc = wenc_told;
       wdec = wdec_told;
+      wenc_above = wenc_above;
       wor = λ r s i l. has_bit-word_of (λ n. has_bit (natural r) n || has_bit (natural s) n) word_size i l;
       wand = λ r s i l. has_bit-word_of (λ n. has_bit (natural r) n && has_bit (natural s) n) word_size i l;
       wnot = λ r s i l. has_bit-word_of (λ n. has_bit (natural r) n && not (has_bit (natural s) n)) word_size i l;
+      above = λ r s i l. (
+        has_bit-above (λ n. has_bit (natural r) n || has_bit (natural s) n) word_size i l,
+        has_bit-above (λ n. has_bit (natural r) n && has_bit (natural s) n) word_size i l,
+        has_bit-above (λ n. has_bit (natural r) n && not (has_bit (natural s) n)) word_size i l,
+      );
     }
