@@ -8,8 +8,6 @@ mod calls;
 #[cfg(test)]
 mod large;
 #[cfg(test)]
-mod operators;
-#[cfg(test)]
 mod over;
 #[cfg(test)]
 mod sorted;
@@ -17,5 +15,3 @@ mod sorted;
 mod terms;
 #[cfg(test)]
 mod unfit;
-#[cfg(test)]
-mod words;

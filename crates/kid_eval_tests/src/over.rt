@@ -1,40 +1,39 @@
-//! Terms and the values that they have.
-use crate::built::{Made, applied, value};
+//! The judge of values that were found, and the value of a term over names that may not have been built.
+ghost use Rattle.std.specs.Prelude.{◌≡◌, true, IsOkAnd};
+ghost use Rattle.kid_value.specs.PlainValue.{int};
+ghost use Rattle.kid_value.specs.ValueView.{plain};
+
 use crate::sorted::value_over;
 use kid_sorting::SortFault;
-use kid_term::{Defs, Op, Term};
-use kid_value::{Value, cmp};
+use kid_term::{Defs, Term};
+use kid_value::{Names, Value, Values};
 use std::alloc::Global;
-use std::process::Abort;
 
-fn is_same(found: &Value, want: &Result<Value, SortFault>) -> bool {
-    match want {
-        Ok(want) => cmp(found, want).is_eq(),
-        Err(_) => false,
-    }
-}
-
-/// Whether this value was found.
-pub fn is_value(alloc: Global, found: Result<Value, SortFault>, want: Made) -> bool {
+/// Whether this number was found.
+pub fn is_number(found: &Result<Value, SortFault>, want: i64) -> bool
+    ensures { result ≡ true → IsOkAnd found.now (λ v. plain v ≡ int want) }
+{
     match found {
-        Ok(found) => is_same(&found, &value(alloc, want)),
-        Err(_) => false,
+        Ok(Value::Int(n)) => *n == want,
+        _ => false,
     }
 }
 
-/// The value of a term without names and calls, where it was built.
-pub fn evaluated(alloc: Global, term: Result<Term, SortFault>) -> Result<Value, SortFault> {
-    match term {
-        Ok(term) => value_over(alloc, &Defs::new(alloc), &[], &[], &term),
-        Err(fault) => Err(fault),
-    }
-}
-
-/// Each operator at terms of these values has the value.
-pub fn gives(rt: &impl Abort, alloc: Global, rows: &[(Op, &[Made], Made)]) {
-    for (i, row) in rows.iter().enumerate() {
-        let (op, args, want) = *row;
-        let found = evaluated(alloc, applied(alloc, op, args));
-        assert!(rt; is_value(alloc, found, want), "{op:?} in row {i}");
+/// The value of the term where these names have these values.
+pub fn over(
+    alloc: Global,
+    names: &Result<Names, SortFault>,
+    values: &Result<Values, SortFault>,
+    term: &Result<Term, SortFault>,
+) -> Result<Value, SortFault> {
+    match (names, values, term) {
+        (Ok(names), Ok(values), Ok(term)) => value_over(
+            alloc,
+            &Defs::new(alloc),
+            names.items(),
+            values.items(),
+            term,
+        ),
+        _ => Err(SortFault::Memory),
     }
 }

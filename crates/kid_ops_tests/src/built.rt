@@ -1,38 +1,8 @@
-//! The values that stand in the tables of cases.
-use kid_value::{Entries, Members, Memory, Value, Values, cmp};
+//! The values of the cases. A small one is a letter, so that a case is a text: the digits are numbers, and `values` tells the others.
+use kid_value::{Entries, LIMIT, Members, Memory, Value, Values};
 use std::alloc::Global;
 
-/// A value before it is built.
-#[derive(Clone, Copy)]
-pub enum Made {
-    Bool(bool),
-    Int(i64),
-    Pair(i64, bool),
-    /// The pair of such a pair and a number.
-    Nested(i64, bool, i64),
-    Set(&'static [i64]),
-    Seq(&'static [i64]),
-    Map(&'static [(i64, i64)]),
-    /// A map of numbers to sets.
-    Sets(&'static [(i64, &'static [i64])]),
-    /// A row: a sequence for each place, which is empty where the row has no value.
-    Row(&'static [&'static [i64]]),
-    /// The set of the numbers from the first to the second, their sequence, and the map that has the third at each.
-    SetOf(i64, i64),
-    SeqOf(i64, i64),
-    MapOf(i64, i64, i64),
-    /// The row that has a value at each of so many places.
-    RowOf(u32, i64),
-}
-
-fn pair(alloc: Global, n: i64, b: bool) -> Result<Value, Memory> {
-    Value::pair(alloc, Value::Int(n), Value::Bool(b))
-}
-
-fn nested(alloc: Global, n: i64, b: bool, m: i64) -> Result<Value, Memory> {
-    let inner = pair(alloc, n, b)?;
-    Value::pair(alloc, inner, Value::Int(m))
-}
+const MOST: i64 = 9223372036854775807;
 
 fn set(alloc: Global, items: &[i64]) -> Result<Value, Memory> {
     let mut members = Members::new(alloc);
@@ -58,30 +28,121 @@ fn map(alloc: Global, items: &[(i64, i64)]) -> Result<Value, Memory> {
     Ok(Value::Map(entries))
 }
 
-fn put_set(alloc: Global, entries: &mut Entries, key: i64, members: &[i64]) -> Result<(), Memory> {
-    let members = set(alloc, members)?;
-    entries.put(Value::Int(key), members)
-}
-
-fn sets(alloc: Global, items: &[(i64, &[i64])]) -> Result<Value, Memory> {
+// the map of a number to a set
+fn allowed(alloc: Global, key: i64, members: Result<Value, Memory>) -> Result<Value, Memory> {
     let mut entries = Entries::new(alloc);
-    for item in items {
-        put_set(alloc, &mut entries, item.0, item.1)?;
-    }
+    entries.put(Value::Int(key), members?)?;
     Ok(Value::Map(entries))
 }
 
-fn push_seq(alloc: Global, values: &mut Values, items: &[i64]) -> Result<(), Memory> {
-    let items = seq(alloc, items)?;
-    values.push(items)
+fn push(values: &mut Values, value: Result<Value, Memory>) -> Result<(), Memory> {
+    values.push(value?)
 }
 
 fn row(alloc: Global, items: &[&[i64]]) -> Result<Value, Memory> {
     let mut values = Values::new(alloc);
     for item in items {
-        push_seq(alloc, &mut values, item)?;
+        push(&mut values, seq(alloc, item))?;
     }
     Ok(Value::Seq(values))
+}
+
+fn number(letter: u8) -> Option<i64> {
+    match letter {
+        b'0'..=b'9' => Some(i64::from(letter - b'0')),
+        b'-' => Some(-1),
+        b'N' => Some(-9),
+        b'x' => Some(62),
+        b'm' => Some(-MOST - 1),
+        b'n' => Some(MOST - 1),
+        b'M' => Some(MOST),
+        // the greatest word, its highest bit, the next number, and those that are 1 and 61 above
+        b'A' => Some(4611686018427387903),
+        b'B' => Some(2305843009213693952),
+        b'L' => Some(LIMIT),
+        b'l' => Some(LIMIT + 1),
+        b'b' => Some(LIMIT + 61),
+        _ => None,
+    }
+}
+
+fn small_set(alloc: Global, letter: u8) -> Result<Value, Memory> {
+    match letter {
+        b'e' => set(alloc, &[]),
+        b'i' => set(alloc, &[1]),
+        b'j' => set(alloc, &[3]),
+        b'k' => set(alloc, &[4]),
+        b'r' => set(alloc, &[1, 2]),
+        b't' => set(alloc, &[1, 3]),
+        b's' => set(alloc, &[-3, 0, 7]),
+        b'f' => set(alloc, &[MOST - 1, MOST]),
+        b'g' => set(alloc, &[LIMIT, LIMIT + 1]),
+        b'h' => set(alloc, &[LIMIT + 1]),
+        _ => Err(Memory),
+    }
+}
+
+fn small_seq(alloc: Global, letter: u8) -> Result<Value, Memory> {
+    match letter {
+        b'q' => seq(alloc, &[]),
+        b'o' => seq(alloc, &[4]),
+        b'u' => seq(alloc, &[7]),
+        b'v' => seq(alloc, &[7, 8]),
+        b'w' => seq(alloc, &[1, 2]),
+        b'y' => seq(alloc, &[1, 3]),
+        b'p' => seq(alloc, &[4, 2, 4]),
+        b'P' => row(alloc, &[&[5], &[], &[6]]),
+        b'Q' => row(alloc, &[&[4], &[5]]),
+        b'U' => row(alloc, &[&[7, 8]]),
+        b'V' => row(alloc, &[&[9]]),
+        b'W' => row(alloc, &[&[]]),
+        _ => small_set(alloc, letter),
+    }
+}
+
+fn small_map(alloc: Global, letter: u8) -> Result<Value, Memory> {
+    match letter {
+        b'd' => map(alloc, &[]),
+        b'c' => map(alloc, &[(1, 5), (3, 5)]),
+        b'C' => map(alloc, &[(1, 5), (3, 6)]),
+        b'D' => map(alloc, &[(1, 7)]),
+        b'E' => map(alloc, &[(LIMIT, 4), (LIMIT + 1, 5)]),
+        b'G' => allowed(alloc, 1, set(alloc, &[4, 5])),
+        b'T' => Ok(Value::Bool(true)),
+        b'F' => Ok(Value::Bool(false)),
+        _ => small_seq(alloc, letter),
+    }
+}
+
+fn small(alloc: Global, letter: u8) -> Result<Value, Memory> {
+    match number(letter) {
+        Some(n) => Ok(Value::Int(n)),
+        None => small_map(alloc, letter),
+    }
+}
+
+/// The values of the letters, in their order.
+pub fn smalls(alloc: Global, letters: &str) -> Result<Values, Memory> {
+    let mut values = Values::new(alloc);
+    for letter in letters.as_bytes() {
+        push(&mut values, small(alloc, *letter))?;
+    }
+    Ok(values)
+}
+
+/// A value of many parts, or a number or truth value beside it.
+#[derive(Clone, Copy)]
+pub enum Large {
+    Bool(bool),
+    Int(i64),
+    /// The numbers from the first to the second as a set and as a sequence, and the map that has the third at each.
+    Set(i64, i64),
+    Seq(i64, i64),
+    Map(i64, i64, i64),
+    /// The row that has a value at each of so many places.
+    Row(u32, i64),
+    /// The map of a number to the set of another.
+    Allowed(i64, i64),
 }
 
 fn set_of(alloc: Global, from: i64, to: i64) -> Result<Value, Memory> {
@@ -111,41 +172,30 @@ fn map_of(alloc: Global, from: i64, to: i64, held: i64) -> Result<Value, Memory>
 fn row_of(alloc: Global, count: u32, held: i64) -> Result<Value, Memory> {
     let mut values = Values::new(alloc);
     for _ in 0..count {
-        push_seq(alloc, &mut values, &[held])?;
+        push(&mut values, seq(alloc, &[held]))?;
     }
     Ok(Value::Seq(values))
 }
 
-/// The value that is made so.
-pub fn value(alloc: Global, made: Made) -> Result<Value, Memory> {
+fn value_of(alloc: Global, made: Large) -> Result<Value, Memory> {
     match made {
-        Made::Bool(b) => Ok(Value::Bool(b)),
-        Made::Int(n) => Ok(Value::Int(n)),
-        Made::Pair(n, b) => pair(alloc, n, b),
-        Made::Nested(n, b, m) => nested(alloc, n, b, m),
-        Made::Set(items) => set(alloc, items),
-        Made::Seq(items) => seq(alloc, items),
-        Made::Map(items) => map(alloc, items),
-        Made::Sets(items) => sets(alloc, items),
-        Made::Row(items) => row(alloc, items),
-        Made::SetOf(from, to) => set_of(alloc, from, to),
-        Made::SeqOf(from, to) => seq_of(alloc, from, to),
-        Made::MapOf(from, to, held) => map_of(alloc, from, to, held),
-        Made::RowOf(count, held) => row_of(alloc, count, held),
+        Large::Bool(b) => Ok(Value::Bool(b)),
+        Large::Int(n) => Ok(Value::Int(n)),
+        Large::Set(from, to) => set_of(alloc, from, to),
+        Large::Seq(from, to) => seq_of(alloc, from, to),
+        Large::Map(from, to, held) => map_of(alloc, from, to, held),
+        Large::Row(count, held) => row_of(alloc, count, held),
+        Large::Allowed(key, member) => allowed(alloc, key, set(alloc, &[member])),
     }
 }
 
-fn equals(alloc: Global, found: &Value, want: Made) -> bool {
-    match value(alloc, want) {
-        Ok(want) => cmp(found, &want).is_eq(),
-        Err(_) => false,
+/// The values that are made so, in their order.
+pub fn larges(alloc: Global, mades: &[Option<Large>]) -> Result<Values, Memory> {
+    let mut values = Values::new(alloc);
+    for made in mades {
+        if let Some(made) = made {
+            push(&mut values, value_of(alloc, *made))?;
+        }
     }
-}
-
-/// Whether memory was at hand and the value is the one that is made so.
-pub fn is(alloc: Global, found: Result<Value, Memory>, want: Made) -> bool {
-    match found {
-        Ok(found) => equals(alloc, &found, want),
-        Err(_) => false,
-    }
+    Ok(values)
 }

@@ -1,40 +1,30 @@
-//! Calls of the operators on values at tables of cases. What an operator may not be asked is told as want of memory, which
-//! no case wants.
-ghost use Rattle.std.specs.Prelude.{◌≡◌};
+//! Calls of the operators on values, and the judge of what they give. What an operator may not be asked is told as want of
+//! memory, which no case wants.
+ghost use Rattle.std.specs.Prelude.{◌≡◌, true, IsOkAnd};
 ghost use Rattle.kid_value.specs.ValueView.{plain};
 ghost use Rattle.kid_ops.specs.Kinds.{item_count};
 
-use crate::built::{Made, is, value};
-use kid_ops::{logic, map, pair, seq, set, word};
-use kid_value::{Memory, Value, in_limits};
+use kid_ops::{logic, map, number, pair, seq, set, word};
+use kid_value::{Memory, Value, Values, cmp, in_limits};
 use std::alloc::Global;
-use std::process::Abort;
 
-/// An operator on one value, with the numbers that it takes beside it.
+/// An operator, with the numbers that it takes beside its values.
 #[derive(Clone, Copy)]
-pub enum One {
+pub enum Op {
+    Choose(bool),
+    Eq,
+    Le,
+    Lt,
+    Min,
+    Max,
+    Mod,
+    Pair,
     Fst,
     Snd,
     /// The set and the sequence of values that are given as a sequence.
     Set,
     Seq,
-    Card,
-    Len,
-    Items,
-    Rest(i64),
-    Dom,
-    Ran,
-    Renc(i64, i64),
-    Rdec(i64),
-    Rdrop(i64, i64),
-}
-
-/// An operator on two values.
-#[derive(Clone, Copy)]
-pub enum Two {
-    Choose(bool),
-    Eq,
-    Pair,
+    Range,
     Member,
     Subset,
     Union,
@@ -42,24 +32,37 @@ pub enum Two {
     Inter,
     Diff,
     Without,
+    Card,
     Least,
+    Len,
     At(i64),
     Snoc,
+    Rest(i64),
+    Items,
     Prefix,
+    Dom,
+    Ran,
+    Get,
+    Put,
     Drop,
     Fill,
     Submap,
     Fits,
     Narrow,
+    /// Of words: the lowest key, and then what else is a number.
+    Wenc(i64, i64),
+    Wdec(i64, i64),
+    Wor,
+    Wand,
+    Wnot,
+    Wcard,
+    Win(i64, i64),
+    Wleast(i64, i64),
+    Renc(i64, i64),
+    Rdec(i64),
     Rget(i64, i64),
     Rput(i64, i64),
-}
-
-/// An operator on three values.
-#[derive(Clone, Copy)]
-pub enum Three {
-    Get,
-    Put,
+    Rdrop(i64, i64),
 }
 
 fn set_of_items(alloc: Global, x: &Value) -> Result<Value, Memory> {
@@ -116,119 +119,125 @@ fn rdec(alloc: Global, lo: i64, row: &Value) -> Result<Value, Memory> {
     }
 }
 
-fn of_one(alloc: Global, op: One, x: &Value) -> Result<Value, Memory> {
+#[tactic(auto, using(crate::proofs::WordLemmas::small_code))]
+fn code(lo: &i64, k: &i64, s: &Value) -> Result<Value, Memory> {
+    match s {
+        Value::Set(_) if in_limits(*lo) && *k <= 62 => Ok(Value::Int(word::wenc(*lo, *k, s))),
+        _ => Err(Memory),
+    }
+}
+
+fn of_word(alloc: Global, op: Op, r: i64) -> Result<Value, Memory> {
     match op {
-        One::Fst => pair::fst(alloc, x),
-        One::Snd => pair::snd(alloc, x),
-        One::Set => set_of_items(alloc, x),
-        One::Seq => seq_of_items(alloc, x),
-        One::Card => card(x),
-        One::Len => len(x),
-        One::Items => seq::items(alloc, x),
-        One::Rest(count) => seq::rest(alloc, x, count),
-        One::Dom => map::dom(alloc, x),
-        One::Ran => map::ran(alloc, x),
-        One::Renc(lo, n) => renc(alloc, lo, n, x),
-        One::Rdec(lo) => rdec(alloc, lo, x),
-        One::Rdrop(lo, a) => word::rdrop(alloc, lo, x, a),
+        Op::Wcard => Ok(Value::Int(word::wcard(r))),
+        Op::Win(lo, a) => Ok(Value::Bool(word::win(lo, a, r))),
+        Op::Wleast(lo, d) if in_limits(lo) => Ok(Value::Int(word::wleast(lo, d, r))),
+        Op::Wdec(lo, k) if in_limits(lo) => word::wdec(alloc, lo, k, r),
+        _ => Err(Memory),
     }
 }
 
-fn of_two(alloc: Global, op: Two, x: &Value, y: &Value) -> Result<Value, Memory> {
+fn of_one(alloc: Global, op: Op, x: &Value) -> Result<Value, Memory> {
     match op {
-        Two::Choose(p) => logic::choose(alloc, p, x, y),
-        Two::Eq => Ok(Value::Bool(logic::eq(x, y))),
-        Two::Pair => pair::pair(alloc, x, y),
-        Two::Member => Ok(Value::Bool(set::member(x, y))),
-        Two::Subset => Ok(Value::Bool(set::subset(x, y))),
-        Two::Union => set::union(alloc, x, y),
-        Two::With => set::with(alloc, x, y),
-        Two::Inter => set::inter(alloc, x, y),
-        Two::Diff => set::diff(alloc, x, y),
-        Two::Without => set::without(alloc, x, y),
-        Two::Least => set::least(alloc, x, y),
-        Two::At(place) => seq::at(alloc, x, place, y),
-        Two::Snoc => seq::snoc(alloc, x, y),
-        Two::Prefix => Ok(Value::Bool(seq::prefix(x, y))),
-        Two::Drop => map::drop(alloc, x, y),
-        Two::Fill => map::fill(alloc, x, y),
-        Two::Submap => Ok(Value::Bool(map::submap(x, y))),
-        Two::Fits => Ok(Value::Bool(map::fits(x, y))),
-        Two::Narrow => map::narrow(alloc, x, y),
-        Two::Rget(lo, a) => word::rget(alloc, lo, x, a, y),
-        Two::Rput(lo, a) => word::rput(alloc, lo, x, a, y),
+        Op::Fst => pair::fst(alloc, x),
+        Op::Snd => pair::snd(alloc, x),
+        Op::Set => set_of_items(alloc, x),
+        Op::Seq => seq_of_items(alloc, x),
+        Op::Card => card(x),
+        Op::Len => len(x),
+        Op::Items => seq::items(alloc, x),
+        Op::Rest(count) => seq::rest(alloc, x, count),
+        Op::Dom => map::dom(alloc, x),
+        Op::Ran => map::ran(alloc, x),
+        Op::Wenc(lo, k) => code(&lo, &k, x),
+        Op::Renc(lo, n) => renc(alloc, lo, n, x),
+        Op::Rdec(lo) => rdec(alloc, lo, x),
+        Op::Rdrop(lo, a) => word::rdrop(alloc, lo, x, a),
+        _ => match x {
+            Value::Int(r) => of_word(alloc, op, *r),
+            _ => Err(Memory),
+        },
     }
 }
 
-fn of_three(alloc: Global, op: Three, x: &Value, y: &Value, z: &Value) -> Result<Value, Memory> {
+fn of_numbers(alloc: Global, op: Op, a: i64, b: i64) -> Result<Value, Memory> {
     match op {
-        Three::Get => map::get(alloc, x, y, z),
-        Three::Put => map::put(alloc, x, y, z),
+        Op::Le => Ok(Value::Bool(number::le(a, b))),
+        Op::Lt => Ok(Value::Bool(number::lt(a, b))),
+        Op::Min => Ok(Value::Int(number::min(a, b))),
+        Op::Max => Ok(Value::Int(number::max(a, b))),
+        Op::Mod => Ok(Value::Int(number::modulo(a, b))),
+        Op::Range => set::range(alloc, a, b),
+        Op::Wor => Ok(Value::Int(word::wor(a, b))),
+        Op::Wand => Ok(Value::Int(word::wand(a, b))),
+        Op::Wnot => Ok(Value::Int(word::wnot(a, b))),
+        _ => Err(Memory),
     }
 }
 
-fn at_one(alloc: Global, op: One, x: Made) -> Result<Value, Memory> {
-    let x = value(alloc, x)?;
-    of_one(alloc, op, &x)
-}
-
-// nothing that owns memory lives across a `?`, so each argument has a function of its own
-fn at_second(alloc: Global, op: Two, x: &Value, y: Made) -> Result<Value, Memory> {
-    let y = value(alloc, y)?;
-    of_two(alloc, op, x, &y)
-}
-
-fn at_two(alloc: Global, op: Two, x: Made, y: Made) -> Result<Value, Memory> {
-    let x = value(alloc, x)?;
-    at_second(alloc, op, &x, y)
-}
-
-fn at_third(alloc: Global, op: Three, x: &Value, y: &Value, z: Made) -> Result<Value, Memory> {
-    let z = value(alloc, z)?;
-    of_three(alloc, op, x, y, &z)
-}
-
-fn at_second_of_three(
-    alloc: Global,
-    op: Three,
-    x: &Value,
-    y: Made,
-    z: Made,
-) -> Result<Value, Memory> {
-    let y = value(alloc, y)?;
-    at_third(alloc, op, x, &y, z)
-}
-
-fn at_three(alloc: Global, op: Three, x: Made, y: Made, z: Made) -> Result<Value, Memory> {
-    let x = value(alloc, x)?;
-    at_second_of_three(alloc, op, &x, y, z)
-}
-
-/// Each operator gives the last value of its row.
-pub fn each_of_one(rt: &impl Abort, alloc: Global, rows: &[(One, Made, Made)]) {
-    for (i, row) in rows.iter().enumerate() {
-        let (op, x, want) = *row;
-        assert!(rt; is(alloc, at_one(alloc, op, x), want), "at row {i}");
+fn of_two(alloc: Global, op: Op, x: &Value, y: &Value) -> Result<Value, Memory> {
+    match op {
+        Op::Choose(p) => logic::choose(alloc, p, x, y),
+        Op::Eq => Ok(Value::Bool(logic::eq(x, y))),
+        Op::Pair => pair::pair(alloc, x, y),
+        Op::Member => Ok(Value::Bool(set::member(x, y))),
+        Op::Subset => Ok(Value::Bool(set::subset(x, y))),
+        Op::Union => set::union(alloc, x, y),
+        Op::With => set::with(alloc, x, y),
+        Op::Inter => set::inter(alloc, x, y),
+        Op::Diff => set::diff(alloc, x, y),
+        Op::Without => set::without(alloc, x, y),
+        Op::Least => set::least(alloc, x, y),
+        Op::At(place) => seq::at(alloc, x, place, y),
+        Op::Snoc => seq::snoc(alloc, x, y),
+        Op::Prefix => Ok(Value::Bool(seq::prefix(x, y))),
+        Op::Drop => map::drop(alloc, x, y),
+        Op::Fill => map::fill(alloc, x, y),
+        Op::Submap => Ok(Value::Bool(map::submap(x, y))),
+        Op::Fits => Ok(Value::Bool(map::fits(x, y))),
+        Op::Narrow => map::narrow(alloc, x, y),
+        Op::Rget(lo, a) => word::rget(alloc, lo, x, a, y),
+        Op::Rput(lo, a) => word::rput(alloc, lo, x, a, y),
+        _ => match (x, y) {
+            (Value::Int(a), Value::Int(b)) => of_numbers(alloc, op, *a, *b),
+            _ => Err(Memory),
+        },
     }
 }
 
-/// Whether the operator gives this value.
-pub fn gives(alloc: Global, op: Two, x: Made, y: Made, want: Made) -> bool {
-    is(alloc, at_two(alloc, op, x, y), want)
-}
-
-/// Each operator gives the last value of its row.
-pub fn each_of_two(rt: &impl Abort, alloc: Global, rows: &[(Two, Made, Made, Made)]) {
-    for (i, row) in rows.iter().enumerate() {
-        let (op, x, y, want) = *row;
-        assert!(rt; gives(alloc, op, x, y, want), "at row {i}");
+fn of_three(alloc: Global, op: Op, x: &Value, y: &Value, z: &Value) -> Result<Value, Memory> {
+    match op {
+        Op::Get => map::get(alloc, x, y, z),
+        Op::Put => map::put(alloc, x, y, z),
+        _ => Err(Memory),
     }
 }
 
-/// Each operator gives the last value of its row.
-pub fn each_of_three(rt: &impl Abort, alloc: Global, rows: &[(Three, Made, Made, Made, Made)]) {
-    for (i, row) in rows.iter().enumerate() {
-        let (op, x, y, z, want) = *row;
-        assert!(rt; is(alloc, at_three(alloc, op, x, y, z), want), "at row {i}");
+fn called(alloc: Global, op: Op, args: &[Value]) -> Result<Value, Memory> {
+    match args {
+        [x] => of_one(alloc, op, x),
+        [x, y] => of_two(alloc, op, x, y),
+        [x, y, z] => of_three(alloc, op, x, y, z),
+        _ => Err(Memory),
+    }
+}
+
+fn is(found: &Result<Value, Memory>, want: &Value) -> bool
+    ensures { result ≡ true → IsOkAnd found.now (λ v. plain v ≡ plain want.now) }
+{
+    match found {
+        Ok(found) => cmp(found, want).is_eq(),
+        Err(_) => false,
+    }
+}
+
+/// Whether the operator gives the last of the values at those before it.
+pub fn gives(alloc: Global, op: Op, built: &Result<Values, Memory>) -> bool {
+    match built {
+        Ok(built) => match built.items().split_last() {
+            Some((want, args)) => is(&called(alloc, op, args), want),
+            None => false,
+        },
+        Err(_) => false,
     }
 }

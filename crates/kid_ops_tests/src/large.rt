@@ -1,189 +1,294 @@
 //! Values of more parts than anyone would count on. No clause says when memory is wanting, so an operator might tell that it
 //! is from some size on.
-use crate::built::Made;
-use crate::calls::{One, Three, Two, each_of_one, each_of_three, each_of_two};
-use kid_ops::set;
-use kid_value::Memory;
+use crate::built::{Large, larges};
+use crate::calls::{Op, gives};
 use std::alloc::Global;
+use std::process::Abort;
 
-fn range_size(alloc: Global, from: i64, to: i64) -> Result<i64, Memory> {
-    let numbers = set::range(alloc, from, to)?;
-    Ok(set::card(&numbers))
+/// An operator, the values that it takes, and the one that it gives.
+type Case = (
+    Op,
+    Option<Large>,
+    Option<Large>,
+    Option<Large>,
+    Option<Large>,
+);
+
+fn each(rt: &impl Abort, alloc: Global, cases: &[Case]) {
+    for (i, case) in cases.iter().enumerate() {
+        let (op, x, y, z, want) = *case;
+        assert!(rt;
+            gives(alloc, op, &larges(alloc, &[x, y, z, want])),
+            "at row {i}"
+        );
+    }
 }
 
-#[test]
-fn makes_large_ranges(rt: HostRuntime) {
-    assert!(rt; matches!(range_size(rt.alloc(), -1, 70000), Ok(70002)));
-}
-
-const OF_ONE: [(One, Made, Made); 12] = [
-    (One::Card, Made::SetOf(1, 70000), Made::Int(70000)),
-    (One::Set, Made::SeqOf(1, 5000), Made::SetOf(1, 5000)),
-    (One::Seq, Made::SeqOf(1, 70000), Made::SeqOf(1, 70000)),
-    (One::Len, Made::SeqOf(1, 70000), Made::Int(70000)),
-    (One::Items, Made::SeqOf(1, 5000), Made::SetOf(1, 5000)),
-    (One::Rest(1), Made::SeqOf(1, 70000), Made::SeqOf(2, 70000)),
-    (One::Rest(69999), Made::SeqOf(1, 70000), Made::Seq(&[70000])),
-    (One::Dom, Made::MapOf(1, 70000, 5), Made::SetOf(1, 70000)),
-    (One::Ran, Made::MapOf(1, 70000, 5), Made::Set(&[5])),
+const OF_ONE: [Case; 12] = [
     (
-        One::Renc(1, 4096),
-        Made::MapOf(1, 4096, 5),
-        Made::RowOf(4096, 5),
+        Op::Card,
+        Some(Large::Set(1, 70000)),
+        None,
+        None,
+        Some(Large::Int(70000)),
     ),
-    (One::Rdec(1), Made::RowOf(4096, 5), Made::MapOf(1, 4096, 5)),
     (
-        One::Rdrop(1, 4097),
-        Made::RowOf(4096, 5),
-        Made::RowOf(4096, 5),
+        Op::Set,
+        Some(Large::Seq(1, 5000)),
+        None,
+        None,
+        Some(Large::Set(1, 5000)),
+    ),
+    (
+        Op::Seq,
+        Some(Large::Seq(1, 70000)),
+        None,
+        None,
+        Some(Large::Seq(1, 70000)),
+    ),
+    (
+        Op::Len,
+        Some(Large::Seq(1, 70000)),
+        None,
+        None,
+        Some(Large::Int(70000)),
+    ),
+    (
+        Op::Items,
+        Some(Large::Seq(1, 5000)),
+        None,
+        None,
+        Some(Large::Set(1, 5000)),
+    ),
+    (
+        Op::Rest(1),
+        Some(Large::Seq(1, 70000)),
+        None,
+        None,
+        Some(Large::Seq(2, 70000)),
+    ),
+    (
+        Op::Rest(69999),
+        Some(Large::Seq(1, 70000)),
+        None,
+        None,
+        Some(Large::Seq(70000, 70000)),
+    ),
+    (
+        Op::Dom,
+        Some(Large::Map(1, 70000, 5)),
+        None,
+        None,
+        Some(Large::Set(1, 70000)),
+    ),
+    (
+        Op::Ran,
+        Some(Large::Map(1, 70000, 5)),
+        None,
+        None,
+        Some(Large::Set(5, 5)),
+    ),
+    (
+        Op::Renc(1, 4096),
+        Some(Large::Map(1, 4096, 5)),
+        None,
+        None,
+        Some(Large::Row(4096, 5)),
+    ),
+    (
+        Op::Rdec(1),
+        Some(Large::Row(4096, 5)),
+        None,
+        None,
+        Some(Large::Map(1, 4096, 5)),
+    ),
+    (
+        Op::Rdrop(1, 4097),
+        Some(Large::Row(4096, 5)),
+        None,
+        None,
+        Some(Large::Row(4096, 5)),
     ),
 ];
 
 #[test]
 fn takes_a_large_value(rt: HostRuntime) {
-    each_of_one(&rt, rt.alloc(), &OF_ONE);
+    each(&rt, rt.alloc(), &OF_ONE);
 }
 
-const OF_TWO: [(Two, Made, Made, Made); 19] = [
+const SETS: [Case; 11] = [
     (
-        Two::Choose(false),
-        Made::Int(1),
-        Made::SetOf(1, 70000),
-        Made::SetOf(1, 70000),
+        Op::Choose(false),
+        Some(Large::Int(1)),
+        Some(Large::Set(1, 70000)),
+        None,
+        Some(Large::Set(1, 70000)),
     ),
     (
-        Two::Eq,
-        Made::SetOf(1, 70000),
-        Made::SetOf(1, 70000),
-        Made::Bool(true),
+        Op::Eq,
+        Some(Large::Set(1, 70000)),
+        Some(Large::Set(1, 70000)),
+        None,
+        Some(Large::Bool(true)),
     ),
     (
-        Two::Member,
-        Made::Int(70000),
-        Made::SetOf(1, 70000),
-        Made::Bool(true),
+        Op::Member,
+        Some(Large::Int(70000)),
+        Some(Large::Set(1, 70000)),
+        None,
+        Some(Large::Bool(true)),
     ),
     (
-        Two::Subset,
-        Made::SetOf(1, 70000),
-        Made::SetOf(0, 70000),
-        Made::Bool(true),
+        Op::Subset,
+        Some(Large::Set(1, 70000)),
+        Some(Large::Set(0, 70000)),
+        None,
+        Some(Large::Bool(true)),
     ),
     (
-        Two::Union,
-        Made::SetOf(1, 70000),
-        Made::SetOf(2, 70001),
-        Made::SetOf(1, 70001),
+        Op::Union,
+        Some(Large::Set(1, 70000)),
+        Some(Large::Set(2, 70001)),
+        None,
+        Some(Large::Set(1, 70001)),
     ),
     (
-        Two::With,
-        Made::Int(70001),
-        Made::SetOf(1, 70000),
-        Made::SetOf(1, 70001),
+        Op::With,
+        Some(Large::Int(70001)),
+        Some(Large::Set(1, 70000)),
+        None,
+        Some(Large::Set(1, 70001)),
     ),
     (
-        Two::Inter,
-        Made::SetOf(1, 70000),
-        Made::SetOf(2, 70001),
-        Made::SetOf(2, 70000),
+        Op::Inter,
+        Some(Large::Set(1, 70000)),
+        Some(Large::Set(2, 70001)),
+        None,
+        Some(Large::Set(2, 70000)),
     ),
     (
-        Two::Diff,
-        Made::SetOf(1, 70001),
-        Made::Set(&[70001]),
-        Made::SetOf(1, 70000),
+        Op::Diff,
+        Some(Large::Set(1, 70001)),
+        Some(Large::Set(70001, 70001)),
+        None,
+        Some(Large::Set(1, 70000)),
     ),
     (
-        Two::Without,
-        Made::Int(70001),
-        Made::SetOf(1, 70001),
-        Made::SetOf(1, 70000),
+        Op::Without,
+        Some(Large::Int(70001)),
+        Some(Large::Set(1, 70001)),
+        None,
+        Some(Large::Set(1, 70000)),
     ),
     (
-        Two::At(70000),
-        Made::SeqOf(1, 70000),
-        Made::Int(0),
-        Made::Int(70000),
+        Op::Range,
+        Some(Large::Int(-1)),
+        Some(Large::Int(70000)),
+        None,
+        Some(Large::Set(-1, 70000)),
     ),
     (
-        Two::Snoc,
-        Made::SeqOf(1, 70000),
-        Made::Int(70001),
-        Made::SeqOf(1, 70001),
-    ),
-    (
-        Two::Prefix,
-        Made::SeqOf(1, 70000),
-        Made::SeqOf(1, 70001),
-        Made::Bool(true),
-    ),
-    (
-        Two::Drop,
-        Made::MapOf(1, 70001, 5),
-        Made::Int(70001),
-        Made::MapOf(1, 70000, 5),
-    ),
-    (
-        Two::Fill,
-        Made::SetOf(1, 70000),
-        Made::Int(5),
-        Made::MapOf(1, 70000, 5),
-    ),
-    (
-        Two::Submap,
-        Made::MapOf(1, 70000, 5),
-        Made::MapOf(0, 70000, 5),
-        Made::Bool(true),
-    ),
-    (
-        Two::Fits,
-        Made::MapOf(1, 70000, 5),
-        Made::Sets(&[(70000, &[5])]),
-        Made::Bool(true),
-    ),
-    (
-        Two::Narrow,
-        Made::MapOf(1, 70000, 5),
-        Made::Map(&[]),
-        Made::MapOf(1, 70000, 5),
-    ),
-    (
-        Two::Rget(1, 4096),
-        Made::RowOf(4096, 5),
-        Made::Int(9),
-        Made::Int(5),
-    ),
-    (
-        Two::Rput(1, 4096),
-        Made::RowOf(4096, 5),
-        Made::Int(5),
-        Made::RowOf(4096, 5),
+        Op::Range,
+        Some(Large::Int(-70000)),
+        Some(Large::Int(70000)),
+        None,
+        Some(Large::Set(-70000, 70000)),
     ),
 ];
 
 #[test]
-fn takes_two_large_values(rt: HostRuntime) {
-    each_of_two(&rt, rt.alloc(), &OF_TWO);
+fn takes_large_sets(rt: HostRuntime) {
+    each(&rt, rt.alloc(), &SETS);
 }
 
-const OF_THREE: [(Three, Made, Made, Made, Made); 2] = [
+const OTHERS: [Case; 12] = [
     (
-        Three::Get,
-        Made::MapOf(1, 70000, 5),
-        Made::Int(70000),
-        Made::Int(0),
-        Made::Int(5),
+        Op::At(70000),
+        Some(Large::Seq(1, 70000)),
+        Some(Large::Int(0)),
+        None,
+        Some(Large::Int(70000)),
     ),
     (
-        Three::Put,
-        Made::MapOf(1, 70000, 5),
-        Made::Int(70001),
-        Made::Int(5),
-        Made::MapOf(1, 70001, 5),
+        Op::Snoc,
+        Some(Large::Seq(1, 70000)),
+        Some(Large::Int(70001)),
+        None,
+        Some(Large::Seq(1, 70001)),
+    ),
+    (
+        Op::Prefix,
+        Some(Large::Seq(1, 70000)),
+        Some(Large::Seq(1, 70001)),
+        None,
+        Some(Large::Bool(true)),
+    ),
+    (
+        Op::Drop,
+        Some(Large::Map(1, 70001, 5)),
+        Some(Large::Int(70001)),
+        None,
+        Some(Large::Map(1, 70000, 5)),
+    ),
+    (
+        Op::Fill,
+        Some(Large::Set(1, 70000)),
+        Some(Large::Int(5)),
+        None,
+        Some(Large::Map(1, 70000, 5)),
+    ),
+    (
+        Op::Submap,
+        Some(Large::Map(1, 70000, 5)),
+        Some(Large::Map(0, 70000, 5)),
+        None,
+        Some(Large::Bool(true)),
+    ),
+    (
+        Op::Fits,
+        Some(Large::Map(1, 70000, 5)),
+        Some(Large::Allowed(70000, 5)),
+        None,
+        Some(Large::Bool(true)),
+    ),
+    (
+        Op::Narrow,
+        Some(Large::Map(1, 70000, 5)),
+        Some(Large::Map(1, 0, 0)),
+        None,
+        Some(Large::Map(1, 70000, 5)),
+    ),
+    (
+        Op::Rget(1, 4096),
+        Some(Large::Row(4096, 5)),
+        Some(Large::Int(9)),
+        None,
+        Some(Large::Int(5)),
+    ),
+    (
+        Op::Rput(1, 4096),
+        Some(Large::Row(4096, 5)),
+        Some(Large::Int(5)),
+        None,
+        Some(Large::Row(4096, 5)),
+    ),
+    (
+        Op::Get,
+        Some(Large::Map(1, 70000, 5)),
+        Some(Large::Int(70000)),
+        Some(Large::Int(0)),
+        Some(Large::Int(5)),
+    ),
+    (
+        Op::Put,
+        Some(Large::Map(1, 70000, 5)),
+        Some(Large::Int(70001)),
+        Some(Large::Int(5)),
+        Some(Large::Map(1, 70001, 5)),
     ),
 ];
 
 #[test]
-fn takes_three_large_values(rt: HostRuntime) {
-    each_of_three(&rt, rt.alloc(), &OF_THREE);
+fn takes_large_sequences_maps_and_rows(rt: HostRuntime) {
+    each(&rt, rt.alloc(), &OTHERS);
 }

@@ -8,18 +8,4 @@ mod calls;
 #[cfg(test)]
 mod large;
 #[cfg(test)]
-mod logic;
-#[cfg(test)]
-mod map;
-#[cfg(test)]
-mod number;
-#[cfg(test)]
-mod pair;
-#[cfg(test)]
-mod row;
-#[cfg(test)]
-mod seq;
-#[cfg(test)]
-mod set;
-#[cfg(test)]
-mod word;
+mod unfit;
