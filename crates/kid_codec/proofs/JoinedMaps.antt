@@ -159,8 +159,7 @@ pub are_new : (known es m : List (PlainValue × PlainValue)) → with_entries kn
 are_new known [] m p = tt
 are_new known (e ∷ es) m p =
     let b = bind_some (with_entry known e) (λ (l : List (PlainValue × PlainValue)). with_entries l es) m p in
-    let c = was_new (is_member e.0 (keys known)) (put_entry e.0 e.1 known) b.0 b.1 in
-    (
+    let c = was_new (is_member e.0 (keys known)) (put_entry e.0 e.1 known) b.0 b.1 in (
       no_value (lookup e.0 known) (sym (is_member-keys e.0 known) ∙ c.0),
       subst (λ (l : List (PlainValue × PlainValue)). AreNew l es) (sym c.1) (are_new b.0 es m b.2),
     )

@@ -2,6 +2,7 @@ pub mod Each
 pub mod Found
 pub mod JoinedMaps
 pub mod Lengths
+pub mod NameLemmas
 pub mod Numbers
 pub mod Printed
 pub mod Puts

@@ -3,7 +3,7 @@ use Rattle.std.proofs.Common.{◌≡◌, ◌⊎◌, inl, inr, ℕ, Bool, true, f
 use Rattle.std.specs.Prelude.{◌||◌, option_map, codes}
 use Rattle.kid_sexp.specs.Plain as tree
 use Rattle.kid_sexp.specs.Plain.{Plain, Plains, atom, list}
-use Rattle.kid_value.specs.PlainValue.{PlainValue, int, bool, pair, set, seq, map_of, PlainValues, none, more, PlainEntries, items, entries, row, table}
+use Rattle.kid_value.specs.PlainValue.{PlainValue, int, bool, pair, set, seq, map_of, tag, PlainValues, none, more, PlainEntries, items, entries, row, table}
 use Rattle.kid_value.specs.Rows.Kinds.{set_of_all, sequence_from, map_from}
 use Rattle.kid_value.specs.SortOrder.{both}
 use Rattle.kid_value.specs.ValueMap.{keys, lookup, put_entry}
@@ -16,12 +16,14 @@ use Rattle.kid_codec.specs.SpelledValue.{WordSpells, Spells, ListSpells, SpellTw
 use Rattle.kid_codec.specs.ValueSpelling.{atom_value, distinct_entries, value_of_parts, spelled_value, spelled_list, spelled_pair, spelled_values, spelled_entry, key_and_value, spelled_entries}
 use Rattle.kid_codec.proofs.Found.{same_some}
 use Rattle.kid_codec.proofs.JoinedMaps.{same_lookups, HasEntry, AreNew, put_away, joined}
+use Rattle.kid_codec.proofs.NameLemmas.{tag_read}
 use Rattle.kid_codec.proofs.ValueBack.{value_back}
 
 word_read : (w : List ℕ) (v : PlainValue) → WordSpells w v → atom_value w ≡ Some v
 word_read w (bool true) h = ap atom_value h
 word_read w (bool false) h = ap atom_value h
 word_read w (int n) h = ap atom_value h.0 ∙ value_back (int n) tt h.1
+word_read w (tag n) h = ap atom_value h.0 ∙ tag_read n h.1
 word_read w (pair a b) h = absurd h
 word_read w (set vs) h = absurd h
 word_read w (seq vs) h = absurd h
@@ -98,7 +100,7 @@ one_entry t ts m e reads h p r = record {
   new = λ d known away. (
     away e.0 e.1 (inl refl),
     r.new d.1 (put_entry e.0 e.1 known)
-    (λ k v q. put_away k e known (away k v (inr q)) (λ same. d.0 k e.1 v (subst (λ x. SpellsEntry t x e.1) (sym same) h) (r.told k v q))),
+        (λ k v q. put_away k e known (away k v (inr q)) (λ same. d.0 k e.1 v (subst (λ x. SpellsEntry t x e.1) (sym same) h) (r.told k v q))),
   );
 }
 
@@ -135,6 +137,7 @@ mutual
       word_chosen w (codes "map") ts h.0 ∙ map_read ts (entries es) h.1 h.3 h.4 (entries_read ts (entries es) h.2) ∙ ap (λ (l : PlainEntries). Some (map_of l)) (table_entries es)
   list_read (tree.more (atom w) ts) (bool b) h = absurd h
   list_read (tree.more (atom w) ts) (int n) h = absurd h
+  list_read (tree.more (atom w) ts) (tag n) h = absurd h
 
   two_read : (ts : Plains) (a b : PlainValue) → SpellTwo ts a b → spelled_pair ts ≡ Some (pair a b)
   two_read tree.none a b h = absurd h

@@ -4,7 +4,7 @@ use Rattle.std.specs.Prelude.{◌||◌, option_map, if◌then◌else◌, codes}
 use Rattle.std.specs.Str.{bytes_eq}
 use Rattle.kid_sexp.specs.Plain as tree
 use Rattle.kid_sexp.specs.Plain.{Plain, Plains, atom, list}
-use Rattle.kid_value.specs.PlainValue.{PlainValue, int, bool, pair, set, seq, map_of, items, entries, row, table}
+use Rattle.kid_value.specs.PlainValue.{PlainValue, int, bool, pair, set, seq, map_of, tag, items, entries, row, table}
 use Rattle.kid_value.specs.Rows.Kinds.{set_of_all, sequence_from, map_from}
 use Rattle.kid_value.specs.SortOrder.{both}
 use Rattle.kid_value.specs.ValueMap.{keys, lookup, put_entry}
@@ -12,22 +12,28 @@ use Rattle.kid_value.specs.ValueSet.{Ascends, value_eq, is_member, set_of}
 use Rattle.kid_value.proofs.RowLemmas.{items_row, entries_table}
 use Rattle.kid_value.proofs.RowMeaning.{is_member-set_of}
 use Rattle.kid_value.proofs.ValueSetLaws.{Ascends-union, value_eq-itself, value_eq-true}
+use Rattle.kid_codec.specs.NameSpelling.{is_tag, tag_name}
 use Rattle.kid_codec.specs.Number.{number_of}
 use Rattle.kid_codec.specs.SpelledValue.{WordSpells, Spells, ListSpells, SpellTwo, SpellInOrder, EachSpellsMember, SomeSpells, SpellsEntry, EachSpellsEntry, SomeSpellsEntry, KeysDiffer}
 use Rattle.kid_codec.specs.ValueSpelling.{atom_value, with_entries, distinct_entries, value_of_parts, spelled_value, spelled_list, spelled_pair, spelled_values, spelled_entry, key_and_value, spelled_entries}
 use Rattle.kid_codec.proofs.Found.{same_some, if_some, if_else, mapped, both_some, bind_some, number_from}
 use Rattle.kid_codec.proofs.JoinedMaps.{HasEntry, AreNew, put_at, new_key, are_new, joined}
 use Rattle.kid_codec.proofs.Numbers.{bytes_eq-true}
+use Rattle.kid_codec.proofs.NameLemmas.{tag_told}
 use Rattle.kid_codec.proofs.SpelledRead.{entry_is_read}
 
 word_told : (w : List ℕ) (v : PlainValue) → atom_value w ≡ Some v → WordSpells w v
 word_told w v p =
-    let n = option_map int (number_of w) in
+    let m = option_map int (number_of w) in
+    let n = if is_tag w then Some (tag (tag_name w)) else m in
     elim (if_else (bytes_eq w (codes "true")) (Some (bool true)) (if bytes_eq w (codes "false") then Some (bool false) else n) v p) [
       | inl r ↦ subst (WordSpells w) (same_some (bool true) v r.1) (bytes_eq-true w (codes "true") r.0)
       | inr r ↦ elim (if_else (bytes_eq w (codes "false")) (Some (bool false)) n v r.1) [
         | inl q ↦ subst (WordSpells w) (same_some (bool false) v q.1) (bytes_eq-true w (codes "false") q.0)
-        | inr q ↦ let m = mapped int (number_of w) v q.1 in subst (WordSpells w) m.2 (number_from w m.0 m.1)
+        | inr q ↦ elim (if_else (is_tag w) (Some (tag (tag_name w))) m v q.1) [
+          | inl o ↦ subst (WordSpells w) (same_some (tag (tag_name w)) v o.1) (tag_told w o.0)
+          | inr o ↦ let f = mapped int (number_of w) v o.1 in subst (WordSpells w) f.2 (number_from w f.0 f.1)
+        ]
       ]
     ]
 
@@ -61,8 +67,7 @@ some_member (tree.more t ts) (v ∷ vs) x h p =
 
 set_told : (w : List ℕ) (ts : Plains) (vs : List PlainValue) → w ≡ codes "set" → SpellInOrder ts (row vs) → ListSpells (tree.more (atom w) ts) (set_of_all vs)
 set_told w ts vs p h =
-    let is : set_of vs ≡ items (row (set_of vs)) = sym (items_row (set_of vs)) in
-    (
+    let is : set_of vs ≡ items (row (set_of vs)) = sym (items_row (set_of vs)) in (
       p,
       subst Ascends is (Ascends-union vs [] tt),
       each_member ts vs (items (row (set_of vs))) h (λ x q. ap (is_member x) (sym is) ∙ is_member-set_of x vs ∙ q),
@@ -118,8 +123,7 @@ map_told : (w : List ℕ) (ts : Plains) (es m : List (PlainValue × PlainValue))
 map_told w ts es m p h q =
     let n = are_new [] es m q in
     let j = joined [] es n tt in
-    let is : j.whole ≡ entries (table m) = same_some j.whole m (sym j.made ∙ q) ∙ sym (entries_table m) in
-    (
+    let is : j.whole ≡ entries (table m) = same_some j.whole m (sym j.made ∙ q) ∙ sym (entries_table m) in (
       p,
       subst (λ (l : List (PlainValue × PlainValue)). Ascends (keys l)) is j.up,
       each_entry ts es (entries (table m)) h (λ k v r. ap (lookup k) (sym is) ∙ j.holds k v r),
