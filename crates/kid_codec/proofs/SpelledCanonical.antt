@@ -1,5 +1,5 @@
 -- What a tree spells is canonical.
-use Rattle.std.proofs.Common.{◌≡◌, inl, inr, ℕ, Bool, true, false, List, ◌∷◌, Some, refl, ap}
+use Rattle.std.proofs.Common.{◌≡◌, inl, inr, ℕ, true, List, Some, ap}
 use Rattle.std.specs.Prelude.{◌||◌}
 use Rattle.kid_sexp.specs.Plain as tree
 use Rattle.kid_sexp.specs.Plain.{Plain, Plains, atom, list}

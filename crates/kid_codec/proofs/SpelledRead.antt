@@ -1,5 +1,5 @@
 -- The value that a tree spells is the one that is read from it.
-use Rattle.std.proofs.Common.{◌≡◌, ◌⊎◌, inl, inr, ℕ, Bool, true, false, List, [], ◌∷◌, Option, Some, None, refl, sym, ap, ◌∙◌, subst}
+use Rattle.std.proofs.Common.{◌≡◌, inl, inr, ℕ, Bool, true, false, List, [], ◌∷◌, Option, Some, None, refl, sym, ap, ◌∙◌, subst}
 use Rattle.std.specs.Prelude.{◌||◌, option_map, codes}
 use Rattle.kid_sexp.specs.Plain as tree
 use Rattle.kid_sexp.specs.Plain.{Plain, Plains, atom, list}

@@ -1,10 +1,10 @@
 -- What is read from a tree is a value that it spells.
-use Rattle.std.proofs.Common.{◌≡◌, ◌⊎◌, inl, inr, ℕ, ℤ, Bool, true, false, List, [], ◌∷◌, Option, Some, None, refl, sym, ap, ◌∙◌, subst}
+use Rattle.std.proofs.Common.{◌≡◌, inl, inr, ℕ, true, false, List, [], ◌∷◌, Option, Some, None, refl, sym, ap, ◌∙◌, subst}
 use Rattle.std.specs.Prelude.{◌||◌, option_map, if◌then◌else◌, codes}
 use Rattle.std.specs.Str.{bytes_eq}
 use Rattle.kid_sexp.specs.Plain as tree
 use Rattle.kid_sexp.specs.Plain.{Plain, Plains, atom, list}
-use Rattle.kid_value.specs.PlainValue.{PlainValue, int, bool, pair, set, seq, map_of, tag, items, entries, row, table}
+use Rattle.kid_value.specs.PlainValue.{PlainValue, int, bool, pair, tag, items, entries, row, table}
 use Rattle.kid_value.specs.Rows.Kinds.{set_of_all, sequence_from, map_from}
 use Rattle.kid_value.specs.SortOrder.{both}
 use Rattle.kid_value.specs.ValueMap.{keys, lookup, put_entry}
