@@ -68,6 +68,10 @@ abbrev pub HasEntry : PlainValue → PlainValue → List (PlainValue × PlainVal
 HasEntry k v [] = ⊥
 HasEntry k v (e ∷ es) = (e ≡ (k, v)) ⊎ HasEntry k v es
 
+pub not_known : (k v : PlainValue) (es : List (PlainValue × PlainValue)) → (None ≡ Some v) ⊎ HasEntry k v es → HasEntry k v es
+not_known k v es (inl p) = cc
+not_known k v es (inr q) = q
+
 -- each entry's key is new to what is known with those before it
 abbrev pub AreNew : List (PlainValue × PlainValue) → List (PlainValue × PlainValue) → Type 0
 AreNew known [] = Unit {0}
@@ -159,8 +163,7 @@ pub are_new : (known es m : List (PlainValue × PlainValue)) → with_entries kn
 are_new known [] m p = tt
 are_new known (e ∷ es) m p =
     let b = bind_some (with_entry known e) (λ (l : List (PlainValue × PlainValue)). with_entries l es) m p in
-    let c = was_new (is_member e.0 (keys known)) (put_entry e.0 e.1 known) b.0 b.1 in
-    (
+    let c = was_new (is_member e.0 (keys known)) (put_entry e.0 e.1 known) b.0 b.1 in (
       no_value (lookup e.0 known) (sym (is_member-keys e.0 known) ∙ c.0),
       subst (λ (l : List (PlainValue × PlainValue)). AreNew l es) (sym c.1) (are_new b.0 es m b.2),
     )

@@ -2,6 +2,7 @@ pub mod Each
 pub mod Found
 pub mod JoinedMaps
 pub mod Lengths
+pub mod NameLemmas
 pub mod Numbers
 pub mod Printed
 pub mod Puts
@@ -21,3 +22,4 @@ pub mod ValueTold
 pub mod Words
 pub mod Shapes
 pub mod SortedCasts
+pub mod SortedSpelled

@@ -1,23 +1,21 @@
 -- What a tree spells is canonical.
-use Rattle.std.proofs.Common.{◌≡◌, inl, inr, ℕ, Bool, true, false, List, ◌∷◌, Some, refl, ap}
+use Rattle.std.proofs.Common.{◌≡◌, inl, inr, ℕ, true, List, Some, ap}
 use Rattle.std.specs.Prelude.{◌||◌}
 use Rattle.kid_sexp.specs.Plain as tree
 use Rattle.kid_sexp.specs.Plain.{Plain, Plains, atom, list}
 use Rattle.kid_value.specs.Canonical.{IsCanonical, AreCanonical, EntriesAreCanonical}
-use Rattle.kid_value.specs.PlainValue.{PlainValue, int, bool, pair, set, seq, map_of, PlainValues, none, more, PlainEntries, no_entry, entry, items, entries}
+use Rattle.kid_value.specs.PlainValue.{PlainValue, int, bool, pair, set, seq, map_of, tag, PlainValues, none, more, PlainEntries, no_entry, entry, items, entries}
 use Rattle.kid_value.specs.ValueMap.{keys, lookup}
 use Rattle.kid_value.specs.ValueSet.{Ascends, value_eq, is_member}
 use Rattle.kid_value.proofs.ValueSetLaws.{value_eq-itself}
 use Rattle.kid_codec.specs.SpelledValue.{WordSpells, Spells, ListSpells, SpellTwo, SpellInOrder, SomeSpells, SpellsEntry, SomeSpellsEntry}
+use Rattle.kid_codec.proofs.Found.{or_true}
 use Rattle.kid_codec.proofs.JoinedMaps.{lookup-first, lookup-behind}
-
-or_true : (b c : Bool) → c ≡ true → (b || c) ≡ true
-or_true true c p = refl
-or_true false c p = p
 
 word_canonical : (w : List ℕ) (v : PlainValue) → WordSpells w v → IsCanonical v
 word_canonical w (int n) h = tt
 word_canonical w (bool b) h = tt
+word_canonical w (tag n) h = tt
 word_canonical w (pair a b) h = absurd h
 word_canonical w (set vs) h = absurd h
 word_canonical w (seq vs) h = absurd h
@@ -47,6 +45,7 @@ mutual
   list_canonical (tree.more (atom w) ts) (map_of es) h = (h.1, entries_canonical es h.1 (λ k v p. some_entry_canonical ts k v (h.3 k v p)))
   list_canonical (tree.more (atom w) ts) (bool b) h = absurd h
   list_canonical (tree.more (atom w) ts) (int n) h = absurd h
+  list_canonical (tree.more (atom w) ts) (tag n) h = absurd h
 
   two_canonical : (ts : Plains) (a b : PlainValue) → SpellTwo ts a b → IsCanonical a × IsCanonical b
   two_canonical tree.none a b h = absurd h

@@ -1,11 +1,11 @@
 -- The examples of spelled values.
-use Rattle.std.proofs.Common.{◌≡◌, ◌⊎◌, inl, inr, ℕ, Bool, true, false, List, pos, refl, sym, ap, arith, subst}
+use Rattle.std.proofs.Common.{◌≡◌, inl, inr, Bool, true, false, pos, refl, sym, ap, arith, subst}
 use Rattle.std.specs.Prelude.{◌||◌, codes}
 use Rattle.std.specs.Str.{bytes_eq}
 use Rattle.std.proofs.lemmas.Fmt.{decimal_digit}
 use Rattle.kid_sexp.specs.Plain as tree
 use Rattle.kid_sexp.specs.Plain.{Plains, atom, one}
-use Rattle.kid_value.specs.PlainValue.{PlainValue, int, bool, pair, set, seq, map_of, none, more, items}
+use Rattle.kid_value.specs.PlainValue.{PlainValue, int, bool, pair, set, seq, map_of, tag, none, more, items}
 use Rattle.kid_value.specs.ValueSet.{value_eq, is_member}
 use Rattle.kid_value.proofs.ValueSetLaws.{value_eq-true}
 use Rattle.kid_codec.specs.SpelledExamples.{SpelledExamples, set_with_a_repeat, map_with_a_repeat}
@@ -47,6 +47,7 @@ map_example (set vs) h = differs (ap (bytes_eq (codes "map")) h.0)
 map_example (seq vs) h = differs (ap (bytes_eq (codes "map")) h.0)
 map_example (int n) h = h
 map_example (bool b) h = h
+map_example (tag n) h = h
 
 pub examples : SpelledExamples
 examples = record { repeated_member = set_example; repeated_key = λ v h. map_example v h }

@@ -1,9 +1,9 @@
 -- The value that a tree spells is the one that is read from it.
-use Rattle.std.proofs.Common.{◌≡◌, ◌⊎◌, inl, inr, ℕ, Bool, true, false, List, [], ◌∷◌, Option, Some, None, refl, sym, ap, ◌∙◌, subst}
+use Rattle.std.proofs.Common.{◌≡◌, inl, inr, ℕ, Bool, true, false, List, [], ◌∷◌, Option, Some, None, refl, sym, ap, ◌∙◌, subst}
 use Rattle.std.specs.Prelude.{◌||◌, option_map, codes}
 use Rattle.kid_sexp.specs.Plain as tree
 use Rattle.kid_sexp.specs.Plain.{Plain, Plains, atom, list}
-use Rattle.kid_value.specs.PlainValue.{PlainValue, int, bool, pair, set, seq, map_of, PlainValues, none, more, PlainEntries, items, entries, row, table}
+use Rattle.kid_value.specs.PlainValue.{PlainValue, int, bool, pair, set, seq, map_of, tag, PlainValues, none, more, PlainEntries, items, entries, row, table}
 use Rattle.kid_value.specs.Rows.Kinds.{set_of_all, sequence_from, map_from}
 use Rattle.kid_value.specs.SortOrder.{both}
 use Rattle.kid_value.specs.ValueMap.{keys, lookup, put_entry}
@@ -14,14 +14,16 @@ use Rattle.kid_value.proofs.ValueSetLaws.{Ascends-union, same_members, value_eq-
 use Rattle.kid_codec.specs.Reading.{◌>>=◌}
 use Rattle.kid_codec.specs.SpelledValue.{WordSpells, Spells, ListSpells, SpellTwo, SpellInOrder, EachSpellsMember, SomeSpells, SpellsEntry, EachSpellsEntry, SomeSpellsEntry, KeysDiffer}
 use Rattle.kid_codec.specs.ValueSpelling.{atom_value, distinct_entries, value_of_parts, spelled_value, spelled_list, spelled_pair, spelled_values, spelled_entry, key_and_value, spelled_entries}
-use Rattle.kid_codec.proofs.Found.{same_some}
-use Rattle.kid_codec.proofs.JoinedMaps.{same_lookups, HasEntry, AreNew, put_away, joined}
+use Rattle.kid_codec.proofs.Found.{same_some, either_true, or_true}
+use Rattle.kid_codec.proofs.JoinedMaps.{same_lookups, HasEntry, not_known, AreNew, put_away, joined}
+use Rattle.kid_codec.proofs.NameLemmas.{tag_read}
 use Rattle.kid_codec.proofs.ValueBack.{value_back}
 
 word_read : (w : List ℕ) (v : PlainValue) → WordSpells w v → atom_value w ≡ Some v
 word_read w (bool true) h = ap atom_value h
 word_read w (bool false) h = ap atom_value h
 word_read w (int n) h = ap atom_value h.0 ∙ value_back (int n) tt h.1
+word_read w (tag n) h = ap atom_value h.0 ∙ tag_read n h.1
 word_read w (pair a b) h = absurd h
 word_read w (set vs) h = absurd h
 word_read w (seq vs) h = absurd h
@@ -31,14 +33,6 @@ same_truth : (b c : Bool) → (b ≡ true → c ≡ true) → (c ≡ true → b 
 same_truth true c f g = sym (f refl)
 same_truth false true f g = g refl
 same_truth false false f g = refl
-
-either_true : (b c : Bool) → (b || c) ≡ true → (b ≡ true) ⊎ (c ≡ true)
-either_true true c p = inl refl
-either_true false c p = inr p
-
-or_true : (b c : Bool) → c ≡ true → (b || c) ≡ true
-or_true true c p = refl
-or_true false c p = p
 
 -- what trees were read as that each spell a member
 record MembersRead (ts : Plains) (xs : List PlainValue) : Type 0 where
@@ -98,13 +92,9 @@ one_entry t ts m e reads h p r = record {
   new = λ d known away. (
     away e.0 e.1 (inl refl),
     r.new d.1 (put_entry e.0 e.1 known)
-    (λ k v q. put_away k e known (away k v (inr q)) (λ same. d.0 k e.1 v (subst (λ x. SpellsEntry t x e.1) (sym same) h) (r.told k v q))),
+        (λ k v q. put_away k e known (away k v (inr q)) (λ same. d.0 k e.1 v (subst (λ x. SpellsEntry t x e.1) (sym same) h) (r.told k v q))),
   );
 }
-
-not_known : (k v : PlainValue) (es : List (PlainValue × PlainValue)) → (None ≡ Some v) ⊎ HasEntry k v es → HasEntry k v es
-not_known k v es (inl p) = cc
-not_known k v es (inr q) = q
 
 map_read : (ts : Plains) (m : List (PlainValue × PlainValue)) → Ascends (keys m) → ((k v : PlainValue) → lookup k m ≡ Some v → SomeSpellsEntry ts k v) → KeysDiffer ts → EntriesRead ts m
     → option_map map_from (distinct_entries (spelled_entries ts)) ≡ Some (map_of (table m))
@@ -135,6 +125,7 @@ mutual
       word_chosen w (codes "map") ts h.0 ∙ map_read ts (entries es) h.1 h.3 h.4 (entries_read ts (entries es) h.2) ∙ ap (λ (l : PlainEntries). Some (map_of l)) (table_entries es)
   list_read (tree.more (atom w) ts) (bool b) h = absurd h
   list_read (tree.more (atom w) ts) (int n) h = absurd h
+  list_read (tree.more (atom w) ts) (tag n) h = absurd h
 
   two_read : (ts : Plains) (a b : PlainValue) → SpellTwo ts a b → spelled_pair ts ≡ Some (pair a b)
   two_read tree.none a b h = absurd h

@@ -1,10 +1,10 @@
 -- What is read from a tree is a value that it spells.
-use Rattle.std.proofs.Common.{◌≡◌, ◌⊎◌, inl, inr, ℕ, ℤ, Bool, true, false, List, [], ◌∷◌, Option, Some, None, refl, sym, ap, ◌∙◌, subst}
+use Rattle.std.proofs.Common.{◌≡◌, inl, inr, ℕ, true, false, List, [], ◌∷◌, Option, Some, None, refl, sym, ap, ◌∙◌, subst}
 use Rattle.std.specs.Prelude.{◌||◌, option_map, if◌then◌else◌, codes}
 use Rattle.std.specs.Str.{bytes_eq}
 use Rattle.kid_sexp.specs.Plain as tree
 use Rattle.kid_sexp.specs.Plain.{Plain, Plains, atom, list}
-use Rattle.kid_value.specs.PlainValue.{PlainValue, int, bool, pair, set, seq, map_of, items, entries, row, table}
+use Rattle.kid_value.specs.PlainValue.{PlainValue, int, bool, pair, tag, items, entries, row, table}
 use Rattle.kid_value.specs.Rows.Kinds.{set_of_all, sequence_from, map_from}
 use Rattle.kid_value.specs.SortOrder.{both}
 use Rattle.kid_value.specs.ValueMap.{keys, lookup, put_entry}
@@ -12,34 +12,32 @@ use Rattle.kid_value.specs.ValueSet.{Ascends, value_eq, is_member, set_of}
 use Rattle.kid_value.proofs.RowLemmas.{items_row, entries_table}
 use Rattle.kid_value.proofs.RowMeaning.{is_member-set_of}
 use Rattle.kid_value.proofs.ValueSetLaws.{Ascends-union, value_eq-itself, value_eq-true}
+use Rattle.kid_codec.specs.NameSpelling.{is_tag, tag_name}
 use Rattle.kid_codec.specs.Number.{number_of}
 use Rattle.kid_codec.specs.SpelledValue.{WordSpells, Spells, ListSpells, SpellTwo, SpellInOrder, EachSpellsMember, SomeSpells, SpellsEntry, EachSpellsEntry, SomeSpellsEntry, KeysDiffer}
 use Rattle.kid_codec.specs.ValueSpelling.{atom_value, with_entries, distinct_entries, value_of_parts, spelled_value, spelled_list, spelled_pair, spelled_values, spelled_entry, key_and_value, spelled_entries}
-use Rattle.kid_codec.proofs.Found.{same_some, if_some, if_else, mapped, both_some, bind_some, number_from}
-use Rattle.kid_codec.proofs.JoinedMaps.{HasEntry, AreNew, put_at, new_key, are_new, joined}
+use Rattle.kid_codec.proofs.Found.{same_some, either_true, or_true, if_some, if_else, mapped, both_some, bind_some, number_from}
+use Rattle.kid_codec.proofs.JoinedMaps.{HasEntry, not_known, AreNew, put_at, new_key, are_new, joined}
 use Rattle.kid_codec.proofs.Numbers.{bytes_eq-true}
+use Rattle.kid_codec.proofs.NameLemmas.{tag_told}
 use Rattle.kid_codec.proofs.SpelledRead.{entry_is_read}
 
 word_told : (w : List ℕ) (v : PlainValue) → atom_value w ≡ Some v → WordSpells w v
 word_told w v p =
-    let n = option_map int (number_of w) in
+    let m = option_map int (number_of w) in
+    let n = if is_tag w then Some (tag (tag_name w)) else m in
     elim (if_else (bytes_eq w (codes "true")) (Some (bool true)) (if bytes_eq w (codes "false") then Some (bool false) else n) v p) [
       | inl r ↦ subst (WordSpells w) (same_some (bool true) v r.1) (bytes_eq-true w (codes "true") r.0)
       | inr r ↦ elim (if_else (bytes_eq w (codes "false")) (Some (bool false)) n v r.1) [
         | inl q ↦ subst (WordSpells w) (same_some (bool false) v q.1) (bytes_eq-true w (codes "false") q.0)
-        | inr q ↦ let m = mapped int (number_of w) v q.1 in subst (WordSpells w) m.2 (number_from w m.0 m.1)
+        | inr q ↦ elim (if_else (is_tag w) (Some (tag (tag_name w))) m v q.1) [
+          | inl o ↦ subst (WordSpells w) (same_some (tag (tag_name w)) v o.1) (tag_told w o.0)
+          | inr o ↦ let f = mapped int (number_of w) v o.1 in subst (WordSpells w) f.2 (number_from w f.0 f.1)
+        ]
       ]
     ]
 
 -- ---- trees that spell values one by one
-
-either_true : (b c : Bool) → (b || c) ≡ true → (b ≡ true) ⊎ (c ≡ true)
-either_true true c p = inl refl
-either_true false c p = inr p
-
-or_true : (b c : Bool) → c ≡ true → (b || c) ≡ true
-or_true true c p = refl
-or_true false c p = p
 
 each_member : (ts : Plains) (vs xs : List PlainValue) → SpellInOrder ts (row vs) → ((x : PlainValue) → is_member x vs ≡ true → is_member x xs ≡ true) → EachSpellsMember ts xs
 each_member tree.none vs xs h within = tt
@@ -61,8 +59,7 @@ some_member (tree.more t ts) (v ∷ vs) x h p =
 
 set_told : (w : List ℕ) (ts : Plains) (vs : List PlainValue) → w ≡ codes "set" → SpellInOrder ts (row vs) → ListSpells (tree.more (atom w) ts) (set_of_all vs)
 set_told w ts vs p h =
-    let is : set_of vs ≡ items (row (set_of vs)) = sym (items_row (set_of vs)) in
-    (
+    let is : set_of vs ≡ items (row (set_of vs)) = sym (items_row (set_of vs)) in (
       p,
       subst Ascends is (Ascends-union vs [] tt),
       each_member ts vs (items (row (set_of vs))) h (λ x q. ap (is_member x) (sym is) ∙ is_member-set_of x vs ∙ q),
@@ -110,16 +107,11 @@ keys_differ (tree.more t ts) known (e ∷ es) h n = (
   keys_differ ts (put_entry e.0 e.1 known) es h.1 n.1,
 )
 
-not_known : (k v : PlainValue) (es : List (PlainValue × PlainValue)) → (None ≡ Some v) ⊎ HasEntry k v es → HasEntry k v es
-not_known k v es (inl p) = cc
-not_known k v es (inr q) = q
-
 map_told : (w : List ℕ) (ts : Plains) (es m : List (PlainValue × PlainValue)) → w ≡ codes "map" → EntriesInOrder ts es → with_entries [] es ≡ Some m → ListSpells (tree.more (atom w) ts) (map_from m)
 map_told w ts es m p h q =
     let n = are_new [] es m q in
     let j = joined [] es n tt in
-    let is : j.whole ≡ entries (table m) = same_some j.whole m (sym j.made ∙ q) ∙ sym (entries_table m) in
-    (
+    let is : j.whole ≡ entries (table m) = same_some j.whole m (sym j.made ∙ q) ∙ sym (entries_table m) in (
       p,
       subst (λ (l : List (PlainValue × PlainValue)). Ascends (keys l)) is j.up,
       each_entry ts es (entries (table m)) h (λ k v r. ap (lookup k) (sym is) ∙ j.holds k v r),

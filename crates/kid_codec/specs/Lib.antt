@@ -1,5 +1,7 @@
 pub mod DeclaredSpelling
 pub mod Name
+pub mod NameSpelling
+pub mod NamedValues
 pub mod Number
 pub mod Reading
 pub mod Reserved

@@ -5,20 +5,24 @@ use Rattle.kid_sexp.specs.Plain as tree
 use Rattle.kid_sexp.specs.Plain.{Plain, Plains, atom, list}
 use Rattle.kid_value.specs.Canonical.{IsCanonical}
 use Rattle.kid_value.specs.PlainSort.{PlainSort, has_sort}
-use Rattle.kid_value.specs.PlainValue.{PlainValue, int, bool, pair, set, seq, map_of, PlainValues, none, more, items, entries}
+use Rattle.kid_value.specs.PlainValue.{PlainValue, int, bool, pair, set, seq, map_of, tag, PlainValues, none, more, items, entries}
 use Rattle.kid_value.specs.SortLimits.{in_limits}
 use Rattle.kid_value.specs.ValueMap.{keys, lookup}
 use Rattle.kid_value.specs.ValueSet.{Ascends, is_member}
 use Rattle.kid_value.specs.ValueView.{plain}
 use Rattle.kid_value.specs.declared.value.Value.{Value}
-use Rattle.kid_codec.specs.ValueSpelling.{truth_word}
+use Rattle.kid_codec.specs.Name.{is_name}
+use Rattle.kid_codec.specs.NameSpelling.{tag_word}
+use Rattle.kid_codec.specs.SortSpelling.{is_spelled_sort}
+use Rattle.kid_codec.specs.ValueSpelling.{truth_word, is_spelled_value}
 use Rattle.kid_codec.specs.declared.fault.CodecFault.{CodecFault}
 use Rattle.kid_codec.specs.declared.fault.CodecFault.TheVariants.{Form, Sort, Memory}
 
--- a truth value by its word, and a number by its decimal text
+-- a truth value by its word, a number by its decimal text, and a tag by an apostrophe and its name
 abbrev pub WordSpells : List ℕ → PlainValue → Type 0
 WordSpells w (bool b) = w ≡ truth_word b
 WordSpells w (int n) = (w ≡ signed_decimal n) × (in_limits n ≡ true)
+WordSpells w (tag n) = (w ≡ tag_word n) × (is_name n ≡ true)
 WordSpells w v = ⊥
 
 abbrev mutual
@@ -41,6 +45,7 @@ abbrev mutual
       × ((k v : PlainValue) → lookup k (entries es) ≡ Some v → SomeSpellsEntry ts k v) × KeysDiffer ts
   ListSpells (tree.more (atom w) ts) (bool b) = ⊥
   ListSpells (tree.more (atom w) ts) (int n) = ⊥
+  ListSpells (tree.more (atom w) ts) (tag n) = ⊥
 
   -- there are two trees, and they spell the two values
   pub SpellTwo : Plains → PlainValue → PlainValue → Type 0
@@ -99,3 +104,7 @@ SpellsOnce = (t : Plain) (v w : PlainValue) → Spells t v → Spells t w → v 
 -- at any depth its sets ascend, and its maps by their keys
 abbrev pub SpellsCanonical : Type 0
 SpellsCanonical = (t : Plain) (v : PlainValue) → Spells t v → IsCanonical v
+
+-- a value of a sort that has a spelling has one too
+abbrev pub SortedAreSpelled : Type 0
+SortedAreSpelled = (s : PlainSort) (v : PlainValue) → is_spelled_sort s ≡ true → has_sort s v ≡ true → is_spelled_value v ≡ true

@@ -13,11 +13,12 @@ ghost use Rattle.kid_codec.specs.ValueSpelling.{atom_value, with_entry, distinct
 use crate::fault::CodecFault;
 use crate::number::number_of;
 use crate::parts::couple;
+use crate::tree_name::tag_name;
 use kid_sexp::Tree;
 use kid_value::{Entries, Members, Sort, Text, Value, Values, has_sort};
 use std::alloc::Global;
 
-fn atom_value(word: &Text) -> Result<Value, CodecFault>
+fn atom_value(alloc: Global, word: &Text) -> Result<Value, CodecFault>
     ensures { Finds plain result (atom_value word.now) }
 {
     if word.is(b"true") {
@@ -25,6 +26,9 @@ fn atom_value(word: &Text) -> Result<Value, CodecFault>
     }
     if word.is(b"false") {
         return Ok(Value::Bool(false));
+    }
+    if let Some(name) = tag_name(word.as_slice()) {
+        return Ok(Value::Tag(Text::from_slice(alloc, name)?));
     }
     match number_of(word.as_slice()) {
         Some(n) => Ok(Value::Int(n)),
@@ -37,7 +41,7 @@ fn spelled_value(alloc: Global, tree: &Tree) -> Result<Value, CodecFault>
     ensures { Finds plain result (spelled_value (plain_tree tree.now)) }
 {
     match tree {
-        Tree::Atom(word) => atom_value(word),
+        Tree::Atom(word) => atom_value(alloc, word),
         Tree::List(trees) => value_of_list(alloc, trees.as_slice()),
     }
 }
@@ -182,8 +186,8 @@ fn value_in_sort(alloc: Global, tree: &Tree, sort: &Sort) -> Result<Value, Codec
     }
 }
 
-/// The value of a sort that a tree spells: a number, `true`, `false`, `(pair a b)`, `(set a ..)`, `(seq a ..)` or
-/// `(map (k v) ..)`. Members and entries may stand in any order, and a member may be repeated.
+/// The value of a sort that a tree spells: a number, `true`, `false`, a tag as `'red`, `(pair a b)`, `(set a ..)`, `(seq a ..)`
+/// or `(map (k v) ..)`. Members and entries may stand in any order, and a member may be repeated.
 ///
 /// # Errors
 ///
