@@ -1,13 +1,15 @@
 -- The tree of a form reads back to what it holds, which the rules then judge.
-use Rattle.std.proofs.Common.{◌≡◌, ℕ, Bool, true, List, Option, Some, None, Result, Ok, Err, refl, ap, ◌∙◌}
-use Rattle.std.specs.Prelude.{pos, ◌&&◌, nat_lt, length, if◌then◌else◌, codes}
+use Rattle.std.proofs.Common.{◌≡◌, ℕ, Bool, true, List, Option, Some, None, Result, Ok, Err, refl, ap, ◌∙◌, arith}
+use Rattle.std.specs.Prelude.{pos, negsuc, ◌&&◌, int_le, nat_le, nat_lt, length, if◌then◌else◌, codes}
 use Rattle.std.specs.List.{list_all}
+use Rattle.std.proofs.lemmas.Bool.Decides.{nat_tests}
 use Rattle.kid_sexp.specs.Plain.{Plain, list, more, one}
 use Rattle.kid_value.specs.PlainSort.{PlainSort}
 use Rattle.kid_value.specs.SortOrder.{both}
-use Rattle.kid_value.specs.SortLimits.{is_allowed}
+use Rattle.kid_value.specs.SortLimits.{in_limits, is_allowed}
 use Rattle.kid_value.proofs.SortLemmas.{and_parts, and_both}
 use Rattle.kid_term.specs.Names.{Names, PlainDef}
+use Rattle.kid_term.specs.PlainSpec.{is_count}
 use Rattle.kid_term.specs.PlainTerm.{PlainTerm}
 use Rattle.kid_term.specs.Sorting.{sort_of}
 use Rattle.kid_sorting.specs.Declaring.{are_allowed, is_truth, is_sorted_definition}
@@ -21,11 +23,14 @@ use Rattle.kid_codec.proofs.Numbers.{number_of-decimal}
 use Rattle.kid_codec.proofs.SortBack.{spelled_parts}
 use Rattle.kid_codec.proofs.TermBack.{term_back}
 use Rattle.kid_prog.specs.PlainStmt.{PlainStmts}
-use Rattle.kid_prog.specs.Spelling.{named_spelling, names_spelling, definition_spelling, stmt_spellings, is_spelled_name, is_spelled_definition, are_spelled_stmts}
-use Rattle.kid_prog.specs.Forms.{judged, version_of, version_form, definition, def_parts, is_formed_definition, def_form, is_undeclared, input_form, require_form, output_form, are_undeclared, if_proper, known_parameters, main_sorted, main_form, search_parts, search_sorted, search_form}
+use Rattle.kid_prog.specs.Spelling.{named_spelling, names_spelling, first_spelling, definition_spelling, stmt_spellings, is_spelled_name, is_spelled_definition, are_spelled_stmts}
+use Rattle.kid_prog.specs.Forms.{judged, version_of, version_form, definition, def_parts, is_formed_definition, def_form, is_undeclared, input_form, require_form, output_form, counted, first_form, are_undeclared, if_proper, known_parameters, main_sorted, main_form, search_parts, search_sorted, search_form}
 use Rattle.kid_prog.specs.declared.fault.LoadCode.{LoadCode}
 use Rattle.kid_prog.specs.declared.fault.LoadCode.TheVariants as code
 use Rattle.kid_prog.proofs.SpellingBack.{named_back, names_back, stmts_back}
+
+abbrev made : {A : Type 0} → A → Result A LoadCode
+made x = Ok x
 
 -- what the rules make of what a form holds
 abbrev pub verdict : {A : Type 0} → Bool → Bool → A → Result A LoadCode
@@ -63,6 +68,16 @@ pub output_back : (s : PlainSignature) (n : List ℕ × PlainSort) → is_spelle
     → output_form s (headed (codes "output") (named_spelling n)) ≡ verdict (is_undeclared s n.0) (is_allowed n.1) n
 output_back s n h =
     ap (judged (λ (m : List ℕ × PlainSort). is_undeclared s m.0) (λ (m : List ℕ × PlainSort). is_allowed m.1)) (named_back n h)
+
+-- a count is no large number
+pub count_small : (n : ℕ) → is_count n ≡ true → in_limits (pos n) ≡ true
+count_small n h =
+    let r = and_parts (nat_le 1 n) (nat_le n 1000000) h in
+    and_both (int_le (negsuc 4611686018427387903) (pos n)) (int_le (pos n) (pos 4611686018427387904)) refl (grind (arith, nat_tests))
+
+pub first_back : (n : ℕ) → is_count n ≡ true → first_form (first_spelling n) ≡ Ok n
+first_back n h =
+    ap counted (number_of-decimal (pos n) (count_small n h)) ∙ ap (λ (b : Bool). if b then made n else Err code.Form) h
 
 pub main_back : (s : PlainSignature) (a : PlainSort) (parameters : Option Names) (main : PlainStmts) → are_spelled_stmts main ≡ true
     → main_form s a parameters (headed (codes "main") (stmt_spellings main)) ≡ verdict true (main_sorted s a parameters main) main

@@ -1,5 +1,5 @@
 -- A program that loads keeps the rules.
-use Rattle.std.proofs.Common.{◌≡◌, ℕ, suc, ◌<◌, ◌≤◌, Bool, true, false, List, [], ◌∷◌, ◌++◌, length, Option, Result, Ok, refl, sym, ap, ◌∙◌, append_assoc, append-nil, subst, arith}
+use Rattle.std.proofs.Common.{◌≡◌, ℕ, suc, ◌<◌, ◌≤◌, Bool, true, false, List, [], ◌∷◌, ◌++◌, length, Option, None, Result, Ok, refl, sym, ap, ◌∙◌, append_assoc, append-nil, subst, arith}
 use Rattle.std.specs.Prelude.{pos, ◌&&◌, nat_le, nat_lt, if◌then◌else◌, codes}
 use Rattle.std.specs.List.{list_all}
 use Rattle.std.proofs.lemmas.Bool.Decides.{nat_tests}
@@ -17,15 +17,15 @@ use Rattle.kid_codec.specs.SortSpelling.{number_tree, headed}
 use Rattle.kid_prog.specs.Formed.{are_formed, signature_of, output_of, IsFormed}
 use Rattle.kid_prog.specs.Forms.{version_form, is_formed_definition, def_form, is_undeclared, input_form, require_form, output_form, are_undefined, are_undeclared, main_sorted, main_form, search_sorted, search_form}
 use Rattle.kid_prog.specs.Laws.{LoadsAreFormed}
-use Rattle.kid_prog.specs.Loading.{◌>>=◌, Loaded, refused, at, program_with, at_end, after_main, after_output, after_condition, with_input, after_inputs, defined, after_definitions, program_from, from_forest}
+use Rattle.kid_prog.specs.Loading.{◌>>=◌, Loaded, refused, at, program_with, at_end, after_main, after_first, after_output, after_condition, with_input, after_inputs, defined, after_definitions, program_from, from_forest}
 use Rattle.kid_prog.specs.PlainProgram.{PlainProgram}
 use Rattle.kid_prog.specs.Rules.{obey, setting_of, search_scope}
-use Rattle.kid_prog.specs.Spelling.{named_spelling, definitions_before, inputs_before, definition_spelling, last_forms, program_spelling, is_spelled_name, is_spelled_definition}
+use Rattle.kid_prog.specs.Spelling.{named_spelling, definitions_before, inputs_before, definition_spelling, first_before, main_forms, last_forms, program_spelling, is_spelled_name, is_spelled_definition}
 use Rattle.kid_prog.specs.declared.fault.LoadCode.{LoadCode}
 use Rattle.kid_prog.specs.declared.fault.LoadCode.TheVariants as code
 use Rattle.kid_prog.proofs.Casts.{truth_sorted}
 use Rattle.kid_prog.proofs.FormBack.{verdict, def_back, input_back, require_back, output_back, main_back, search_back, known_back}
-use Rattle.kid_prog.proofs.LoadBack.{require_tree, output_tree, main_tree, search_of, search_tree, heading, heading_of, known, with_inputs, inputs_follow, forms_after}
+use Rattle.kid_prog.proofs.LoadBack.{require_tree, output_tree, main_tree, search_of, search_tree, heading, heading_of, known, first_follows, with_inputs, inputs_follow, forms_after}
 use Rattle.kid_prog.proofs.LoadTold.{program_told}
 use Rattle.kid_prog.proofs.ProgramParts.{IsSpelled, spelled_parts}
 use Rattle.kid_prog.proofs.Stages.{staged, loaded_forest}
@@ -54,13 +54,15 @@ last_formed : (k : ℕ) (p : PlainProgram) → IsSpelled p → after_inputs k (s
 last_formed k p s e =
     let g = signature_of p in
     let a = kept (suc k) true (is_truth (sort_of p.definitions p.inputs p.condition)) (require_form g (require_tree p)) p.condition
-    (λ condition. after_condition (suc k) g condition (more (output_tree p) (more (main_tree p) (one (search_tree p))))) p (require_back g p.condition s.condition) e in
+    (λ condition. after_condition (suc k) g condition (more (output_tree p) (first_before p.first (main_forms p)))) p (require_back g p.condition s.condition) e in
     let b = kept (suc (suc k)) (is_undeclared g p.output) (is_allowed p.sort) (output_form g (output_tree p)) (output_of p)
-    (λ output. after_output (suc (suc k)) (heading p output) (more (main_tree p) (one (search_tree p)))) p (output_back g (output_of p) s.output) a.2 in
-    let c = kept (suc (suc (suc k))) true (main_sorted g p.sort (known p) p.main) (main_form g p.sort (known p) (main_tree p)) p.main
-    (λ main. after_main (suc (suc (suc k))) (heading_of p) main (one (search_tree p))) p (main_back g p.sort (known p) p.main s.main) b.2 in
-    let d = kept (suc (suc (suc (suc k)))) (are_undeclared g (output_of p) p.parameters) (search_sorted g p.sort (search_of p)) (search_form g (output_of p) (search_tree p)) (search_of p)
-    (λ search. at_end (suc (suc (suc (suc k)))) (program_with (heading_of p) p.main search) none) p (search_back g (output_of p) (search_of p) s.parameters s.search) c.2 in
+    (λ output. after_output (suc (suc k)) (heading p output None) (first_before p.first (main_forms p))) p (output_back g (output_of p) s.output) a.2 in
+    let follows = first_follows (suc (suc k)) p (output_of p) p.first s.wanted in
+    let j : ℕ = follows.0 in
+    let c = kept (suc j) true (main_sorted g p.sort (known p) p.main) (main_form g p.sort (known p) (main_tree p)) p.main
+    (λ main. after_main (suc j) (heading_of p) main (one (search_tree p))) p (main_back g p.sort (known p) p.main s.main) (sym follows.1 ∙ b.2) in
+    let d = kept (suc (suc j)) (are_undeclared g (output_of p) p.parameters) (search_sorted g p.sort (search_of p)) (search_form g (output_of p) (search_tree p)) (search_of p)
+    (λ search. at_end (suc (suc j)) (program_with (heading_of p) p.main search) none) p (search_back g (output_of p) (search_of p) s.parameters s.search) c.2 in
     let sorted = and_parts (are_allowed p.parameters) (obey (setting_of p) (search_scope p) p.search) d.1 in
     let are_known = known_back g (output_of p) (search_of p) s.parameters d.0 sorted.0 in
     record {
@@ -139,6 +141,7 @@ program_formed p s e =
       condition = n.last.condition;
       output_new = n.last.output_new;
       output_allowed = n.last.output_allowed;
+      wanted = s.wanted;
       parameters_new = n.last.parameters_new;
       parameters_allowed = n.last.parameters_allowed;
       main = n.last.main;

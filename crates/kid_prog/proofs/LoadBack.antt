@@ -1,5 +1,5 @@
 -- A program that keeps the rules loads from each file that spells it.
-use Rattle.std.proofs.Common.{◌≡◌, ℕ, suc, ◌+◌, ◌<◌, ◌≤◌, Bool, true, List, [], ◌∷◌, ◌++◌, length, Option, Some, Result, Ok, refl, sym, ap, ◌∙◌, append_assoc, append-nil, arith}
+use Rattle.std.proofs.Common.{◌≡◌, ℕ, suc, ◌+◌, ◌<◌, ◌≤◌, Bool, true, List, [], ◌∷◌, ◌++◌, length, Option, Some, None, Result, Ok, refl, sym, ap, ◌∙◌, append_assoc, append-nil, arith}
 use Rattle.std.specs.Prelude.{◌&&◌, nat_le, nat_lt, if◌then◌else◌, codes}
 use Rattle.std.specs.List.{list_all}
 use Rattle.std.proofs.lemmas.Bool.Decides.{nat_tests}
@@ -13,21 +13,22 @@ use Rattle.kid_value.specs.SortLimits.{is_allowed}
 use Rattle.kid_value.proofs.SortLemmas.{and_parts, and_both}
 use Rattle.kid_term.specs.Names.{Names, PlainDef}
 use Rattle.kid_term.specs.Sorting.{sort_of}
+use Rattle.kid_term.specs.PlainSpec.{is_wanted}
 use Rattle.kid_sorting.specs.Declaring.{is_new, are_new, are_allowed, is_truth, is_sorted_definition}
 use Rattle.kid_sorting.specs.PlainSignature.{PlainSignature}
 use Rattle.kid_codec.specs.SortSpelling.{headed}
 use Rattle.kid_codec.specs.TermSpelling.{term_spelling}
 use Rattle.kid_prog.specs.Formed.{are_formed, signature_of, output_of, IsFormed}
-use Rattle.kid_prog.specs.Forms.{is_formed_definition, def_form, is_undeclared, input_form, require_form, output_form, are_undefined, are_undeclared, known_parameters, main_sorted, main_form, search_sorted, search_form}
+use Rattle.kid_prog.specs.Forms.{is_formed_definition, def_form, is_undeclared, input_form, require_form, output_form, first_form, are_undefined, are_undeclared, known_parameters, main_sorted, main_form, search_sorted, search_form}
 use Rattle.kid_prog.specs.Laws.{FormedProgramsLoad, TextsLoad}
-use Rattle.kid_prog.specs.Loading.{◌>>=◌, Loaded, refused, at, Heading, program_with, at_end, after_main, after_output, after_condition, with_input, after_inputs, defined, after_definitions, program_from, from_forest}
+use Rattle.kid_prog.specs.Loading.{◌>>=◌, Loaded, refused, at, Heading, program_with, at_end, after_main, after_first, after_output, after_condition, with_input, after_inputs, defined, after_definitions, program_from, from_forest}
 use Rattle.kid_prog.specs.PlainProgram.{PlainProgram}
 use Rattle.kid_prog.specs.PlainStmt.{PlainStmts}
 use Rattle.kid_prog.specs.ProgramText.{program_text}
-use Rattle.kid_prog.specs.Spelling.{named_spelling, stmt_spellings, definitions_before, inputs_before, definition_spelling, last_forms, program_spelling, is_spelled_name, is_spelled_definition}
+use Rattle.kid_prog.specs.Spelling.{named_spelling, stmt_spellings, definitions_before, inputs_before, definition_spelling, first_spelling, first_before, main_forms, last_forms, program_spelling, is_spelled_name, is_spelled_definition}
 use Rattle.kid_prog.specs.declared.fault.LoadCode.{LoadCode}
 use Rattle.kid_prog.specs.declared.fault.LoadCode.TheVariants as code
-use Rattle.kid_prog.proofs.FormBack.{verdict, version_back, def_back, input_back, require_back, output_back, main_back, search_spelling, search_back, known_back}
+use Rattle.kid_prog.proofs.FormBack.{verdict, version_back, def_back, input_back, require_back, output_back, first_back, main_back, search_spelling, search_back, known_back}
 use Rattle.kid_prog.proofs.Printable.{program_printable}
 use Rattle.kid_prog.proofs.ProgramParts.{IsSpelled, spelled_parts}
 
@@ -52,11 +53,11 @@ search_of p = (p.parameters, p.search)
 abbrev pub search_tree : PlainProgram → Plain
 search_tree p = search_spelling (search_of p)
 
-abbrev pub heading : PlainProgram → List ℕ × PlainSort → Heading
-heading p output = record { signature = signature_of p; condition = p.condition; output = output }
+abbrev pub heading : PlainProgram → List ℕ × PlainSort → Option ℕ → Heading
+heading p output first = record { signature = signature_of p; condition = p.condition; output = output; first = first }
 
 abbrev pub heading_of : PlainProgram → Heading
-heading_of p = heading p (output_of p)
+heading_of p = heading p (output_of p) p.first
 
 abbrev pub known : PlainProgram → Option Names
 known p = known_parameters (signature_of p) (output_of p) (one (search_tree p))
@@ -70,7 +71,7 @@ search_loads k p s f =
     (search_form (signature_of p) (output_of p) (search_tree p)) (search_of p) (λ search. at_end (suc k) (program_with (heading_of p) p.main search) none)
     (search_back (signature_of p) (output_of p) (search_of p) s.parameters s.search) f.parameters_new (and_both (are_allowed p.parameters) _ f.parameters_allowed f.search)
 
-main_loads : (k : ℕ) (p : PlainProgram) → IsSpelled p → IsFormed p → after_output k (heading_of p) (more (main_tree p) (one (search_tree p))) ≡ Ok p
+main_loads : (k : ℕ) (p : PlainProgram) → IsSpelled p → IsFormed p → after_first k (heading_of p) (main_forms p) ≡ Ok p
 main_loads k p s f =
     passed (suc k) true (main_sorted (signature_of p) p.sort (known p) p.main) (main_form (signature_of p) p.sort (known p) (main_tree p)) p.main
     (λ main. after_main (suc k) (heading_of p) main (one (search_tree p)))
@@ -78,18 +79,25 @@ main_loads k p s f =
     (ap (λ (ps : Option Names). main_sorted (signature_of p) p.sort ps p.main) (known_are p s f) ∙ f.main)
     ∙ search_loads (suc k) p s f
 
+-- what the forms after the output lead to
+pub first_follows : (k : ℕ) (p : PlainProgram) (output : List ℕ × PlainSort) (first : Option ℕ) → is_wanted first ≡ true
+    → (j : ℕ) × (after_output k (heading p output None) (first_before first (main_forms p)) ≡ after_first j (heading p output first) (main_forms p))
+first_follows k p output None h = (k, refl)
+first_follows k p output (Some n) h =
+    (suc k, ap (λ (r : Result ℕ LoadCode). at (suc k) r >>= λ m. after_first (suc k) (heading p output (Some m)) (main_forms p)) (first_back n h))
+
 output_loads : (k : ℕ) (p : PlainProgram) → IsSpelled p → IsFormed p
-    → after_condition k (signature_of p) p.condition (more (output_tree p) (more (main_tree p) (one (search_tree p)))) ≡ Ok p
+    → after_condition k (signature_of p) p.condition (more (output_tree p) (first_before p.first (main_forms p))) ≡ Ok p
 output_loads k p s f =
     passed (suc k) (is_undeclared (signature_of p) p.output) (is_allowed p.sort) (output_form (signature_of p) (output_tree p)) (output_of p)
-    (λ output. after_output (suc k) (heading p output) (more (main_tree p) (one (search_tree p))))
+    (λ output. after_output (suc k) (heading p output None) (first_before p.first (main_forms p)))
     (output_back (signature_of p) (output_of p) s.output) f.output_new f.output_allowed
-    ∙ main_loads (suc k) p s f
+    ∙ (let g = first_follows (suc k) p (output_of p) p.first f.wanted in g.1 ∙ main_loads g.0 p s f)
 
 last_load : (k : ℕ) (p : PlainProgram) → IsSpelled p → IsFormed p → after_inputs k (signature_of p) (last_forms p) ≡ Ok p
 last_load k p s f =
     passed (suc k) true (is_truth (sort_of p.definitions p.inputs p.condition)) (require_form (signature_of p) (require_tree p)) p.condition
-    (λ condition. after_condition (suc k) (signature_of p) condition (more (output_tree p) (more (main_tree p) (one (search_tree p)))))
+    (λ condition. after_condition (suc k) (signature_of p) condition (more (output_tree p) (first_before p.first (main_forms p))))
     (require_back (signature_of p) p.condition s.condition) refl (ap is_truth f.condition)
     ∙ output_loads (suc k) p s f
 

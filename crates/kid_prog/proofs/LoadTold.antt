@@ -1,5 +1,5 @@
 -- A program that loads can be run, and is the one that the forms spell.
-use Rattle.std.proofs.Common.{◌≡◌, ℕ, suc, Bool, true, false, List, [], ◌∷◌, ◌++◌, Option, Ok, refl, sym, ap, ◌∙◌, append_assoc, append-nil, subst}
+use Rattle.std.proofs.Common.{◌≡◌, ℕ, suc, Bool, true, false, List, [], ◌∷◌, ◌++◌, Option, Some, None, Ok, refl, sym, ap, ◌∙◌, append_assoc, append-nil, subst}
 use Rattle.std.specs.Prelude.{◌&&◌, not, if◌then◌else◌}
 use Rattle.std.specs.List.{list_all}
 use Rattle.std.proofs.lemmas.List.Folds.{list_all-append}
@@ -9,6 +9,7 @@ use Rattle.kid_value.specs.SortLimits.{is_allowed}
 use Rattle.kid_value.proofs.SortLemmas.{and_parts, and_both}
 use Rattle.kid_term.specs.Fitting.{AreSound}
 use Rattle.kid_term.specs.Names.{Names, PlainDef}
+use Rattle.kid_term.specs.PlainSpec.{is_wanted}
 use Rattle.kid_term.specs.PlainTerm.{PlainTerm}
 use Rattle.kid_sorting.specs.Declaring.{are_allowed}
 use Rattle.kid_sorting.specs.PlainSignature.{PlainSignature}
@@ -18,15 +19,15 @@ use Rattle.kid_codec.specs.SortSpelling.{is_spelled_sort}
 use Rattle.kid_prog.specs.PlainProgram.{PlainProgram}
 use Rattle.kid_prog.specs.PlainStmt.{PlainStmts}
 use Rattle.kid_prog.specs.Rules.{IsRunnable, obey}
-use Rattle.kid_prog.specs.Spelling.{definitions_before, inputs_before, last_forms, program_spelling, is_spelled_name, is_spelled_definition, is_spelled_program}
-use Rattle.kid_prog.specs.Forms.{version_form, is_def, def_form, input_form, require_form, output_form, is_input, setting, known_parameters, main_form, search_form}
-use Rattle.kid_prog.specs.Loading.{◌>>=◌, refused, at, Heading, program_with, at_end, after_main, after_output, after_condition, with_input, after_inputs, defined, after_definitions, program_from}
+use Rattle.kid_prog.specs.Spelling.{definitions_before, inputs_before, first_before, last_forms, program_spelling, is_spelled_name, is_spelled_definition, is_spelled_program}
+use Rattle.kid_prog.specs.Forms.{version_form, is_def, def_form, input_form, require_form, output_form, is_first, first_form, is_input, setting, known_parameters, main_form, search_form}
+use Rattle.kid_prog.specs.Loading.{◌>>=◌, refused, at, Heading, program_with, at_end, after_main, after_first, after_output, after_condition, with_input, after_inputs, defined, after_definitions, program_from}
 use Rattle.kid_prog.specs.declared.fault.LoadCode.{LoadCode}
 use Rattle.kid_prog.specs.declared.fault.LoadCode.TheVariants as code
 use Rattle.kid_prog.proofs.DefTold.{def_told}
 use Rattle.kid_prog.proofs.ProgramParts.{IsSpelled, spelled_whole}
 use Rattle.kid_prog.proofs.Stages.{staged, ended}
-use Rattle.kid_prog.proofs.StageForms.{version_told, input_told, output_told, require_told, main_told, search_told}
+use Rattle.kid_prog.proofs.StageForms.{version_told, input_told, output_told, first_told, require_told, main_told, search_told}
 
 not_refused : {A : Type 0} (k : ℕ) (c : LoadCode) (x : A) → refused k c ≡ Ok x → ⊥
 not_refused k c x p = cc
@@ -47,52 +48,77 @@ record Proper (s : PlainSignature) : Type 0 where
   definitions : list_all is_spelled_definition s.definitions ≡ true
   inputs : list_all is_spelled_name s.inputs ≡ true
 
--- the forms after the condition
-record LastFound (s : PlainSignature) (condition : PlainTerm) (ts : Plains) (p : PlainProgram) : Type 0 where
-  output_tree : Plain
+-- the forms main and search
+record MainFound (h : Heading) (ts : Plains) (p : PlainProgram) : Type 0 where
   main_tree : Plain
   search_tree : Plain
-  output : List ℕ × PlainSort
   main : PlainStmts
   search : Names × PlainStmts
-  trees : ts ≡ more output_tree (more main_tree (one search_tree))
-  output_is : output_form s output_tree ≡ Ok output
-  main_is : main_form s output.1 (known_parameters s output (one search_tree)) main_tree ≡ Ok main
-  search_is : search_form s output search_tree ≡ Ok search
-  whole : program_with (record { signature = s; condition = condition; output = output }) main search ≡ p
+  trees : ts ≡ more main_tree (one search_tree)
+  main_is : main_form h.signature h.output.1 (known_parameters h.signature h.output (one search_tree)) main_tree ≡ Ok main
+  search_is : search_form h.signature h.output search_tree ≡ Ok search
+  whole : program_with h main search ≡ p
 
-abbrev heading : PlainSignature → PlainTerm → List ℕ × PlainSort → Heading
-heading s condition output = record { signature = s; condition = condition; output = output }
-
-last_found : (k : ℕ) (s : PlainSignature) (condition : PlainTerm) (ts : Plains) (p : PlainProgram) → after_condition k s condition ts ≡ Ok p → LastFound s condition ts p
-last_found k s condition none p e = absurd (not_refused (suc k) code.Form p e)
-last_found k s condition (more t none) p e =
-    let a = staged (suc k) (output_form s t) (λ output. after_output (suc k) (heading s condition output) none) p e in
-    absurd (not_refused (suc (suc k)) code.Form p a.2)
-last_found k s condition (more t (more u none)) p e =
-    let a = staged (suc k) (output_form s t) (λ output. after_output (suc k) (heading s condition output) (one u)) p e in
-    let h = heading s condition a.0 in
-    let b = staged (suc (suc k)) (main_form s a.0.1 (known_parameters s a.0 none) u) (λ main. after_main (suc (suc k)) h main none) p a.2 in
-    absurd (not_refused (suc (suc (suc k))) code.Form p b.2)
-last_found k s condition (more t (more u (more v vs))) p e =
-    let a = staged (suc k) (output_form s t) (λ output. after_output (suc k) (heading s condition output) (more u (more v vs))) p e in
-    let h = heading s condition a.0 in
-    let b = staged (suc (suc k)) (main_form s a.0.1 (known_parameters s a.0 (more v vs)) u) (λ main. after_main (suc (suc k)) h main (more v vs)) p a.2 in
-    let c = staged (suc (suc (suc k))) (search_form s a.0 v) (λ search. at_end (suc (suc (suc k))) (program_with h b.0 search) vs) p b.2 in
-    let d = ended (suc (suc (suc k))) (program_with h b.0 c.0) p vs c.2 in
+main_found : (k : ℕ) (h : Heading) (ts : Plains) (p : PlainProgram) → after_first k h ts ≡ Ok p → MainFound h ts p
+main_found k h none p e = absurd (not_refused (suc k) code.Form p e)
+main_found k h (more u none) p e =
+    let b = staged (suc k) (main_form h.signature h.output.1 (known_parameters h.signature h.output none) u) (λ main. after_main (suc k) h main none) p e in
+    absurd (not_refused (suc (suc k)) code.Form p b.2)
+main_found k h (more u (more v vs)) p e =
+    let b = staged (suc k) (main_form h.signature h.output.1 (known_parameters h.signature h.output (more v vs)) u) (λ main. after_main (suc k) h main (more v vs)) p e in
+    let c = staged (suc (suc k)) (search_form h.signature h.output v) (λ search. at_end (suc (suc k)) (program_with h b.0 search) vs) p b.2 in
+    let d = ended (suc (suc k)) (program_with h b.0 c.0) p vs c.2 in
     record {
-      output_tree = t;
       main_tree = u;
       search_tree = v;
-      output = a.0;
       main = b.0;
       search = c.0;
-      trees = ap (λ (ws : Plains). more t (more u (more v ws))) d.0;
-      output_is = a.1;
+      trees = ap (λ (ws : Plains). more u (more v ws)) d.0;
       main_is = b.1;
       search_is = c.1;
       whole = d.1;
     }
+
+abbrev heading : PlainSignature → PlainTerm → List ℕ × PlainSort → Option ℕ → Heading
+heading s condition output first = record { signature = s; condition = condition; output = output; first = first }
+
+-- how many values are wanted, and the forms main and search
+record FirstFound (s : PlainSignature) (condition : PlainTerm) (output : List ℕ × PlainSort) (ts : Plains) (p : PlainProgram) : Type 0 where
+  first : Option ℕ
+  wanted : is_wanted first ≡ true
+  rest : Plains
+  trees : ts ≡ first_before first rest
+  last : MainFound (heading s condition output first) rest p
+
+first_found : (k : ℕ) (s : PlainSignature) (condition : PlainTerm) (output : List ℕ × PlainSort) (ts : Plains) (p : PlainProgram)
+    → after_output k (heading s condition output None) ts ≡ Ok p → FirstFound s condition output ts p
+first_found k s condition output none p e = absurd (not_refused (suc k) code.Form p e)
+first_found k s condition output (more t ts) p e = by (is_first t) e
+  where
+    by : (b : Bool)
+        → (if b then (at (suc k) (first_form t) >>= λ n. after_first (suc k) (heading s condition output (Some n)) ts) else after_first k (heading s condition output None) (more t ts)) ≡ Ok p
+        → FirstFound s condition output (more t ts) p
+    by true e =
+        let a = staged (suc k) (first_form t) (λ n. after_first (suc k) (heading s condition output (Some n)) ts) p e in
+        let n : ℕ = a.0 in
+        let told = first_told t n a.1 in
+        record { first = Some n; wanted = told.1; rest = ts; trees = ap (λ (u : Plain). more u ts) told.0; last = main_found (suc k) (heading s condition output (Some n)) ts p a.2 }
+    by false e = record { first = None; wanted = refl; rest = more t ts; trees = refl; last = main_found k (heading s condition output None) (more t ts) p e }
+
+-- the forms after the condition
+record LastFound (s : PlainSignature) (condition : PlainTerm) (ts : Plains) (p : PlainProgram) : Type 0 where
+  output_tree : Plain
+  output : List ℕ × PlainSort
+  rest : Plains
+  trees : ts ≡ more output_tree rest
+  output_is : output_form s output_tree ≡ Ok output
+  found : FirstFound s condition output rest p
+
+last_found : (k : ℕ) (s : PlainSignature) (condition : PlainTerm) (ts : Plains) (p : PlainProgram) → after_condition k s condition ts ≡ Ok p → LastFound s condition ts p
+last_found k s condition none p e = absurd (not_refused (suc k) code.Form p e)
+last_found k s condition (more t ts) p e =
+    let a = staged (suc k) (output_form s t) (λ output. after_output (suc k) (heading s condition output None) ts) p e in
+    record { output_tree = t; output = a.0; rest = ts; trees = refl; output_is = a.1; found = first_found (suc k) s condition a.0 ts p a.2 }
 
 -- what the forms after these definitions and inputs tell
 record RestTold (s : PlainSignature) (ts : Plains) (p : PlainProgram) : Type 0 where
@@ -107,27 +133,31 @@ last_told : (k : ℕ) (s : PlainSignature) (t : Plain) (condition : PlainTerm) (
     → require_form s t ≡ Ok condition → after_condition k s condition ts ≡ Ok p → RestTold s (more t ts) p
 last_told k s t condition ts p proper required e =
     let f = last_found k s condition ts p e in
+    let g = f.found in
+    let l = g.last in
     let r = require_told s t condition required in
     let o = output_told s f.output_tree f.output f.output_is in
-    let m = main_told s f.output.1 (known_parameters s f.output (one f.search_tree)) f.main_tree f.main f.main_is in
-    let n = search_told s f.output f.search_tree f.search f.search_is in
+    let m = main_told s f.output.1 (known_parameters s f.output (one l.search_tree)) l.main_tree l.main l.main_is in
+    let n = search_told s f.output l.search_tree l.search l.search_is in
     let a = r.tree in
     let b = o.0 in
     let c = m.tree in
     let d = n.tree in
-    subst (RestTold s (more t ts)) f.whole
+    subst (RestTold s (more t ts)) l.whole
     (record {
       rest = [];
       inputs = append-nil s.inputs;
       definitions = refl;
-      trees = ap (more t) f.trees ∙ (λ i. more (a i) (more (b i) (more (c i) (one (d i)))));
+      trees = ap (more t) (f.trees ∙ ap (more f.output_tree) (g.trees ∙ ap (first_before g.first) l.trees))
+          ∙ (λ i. more (a i) (more (b i) (first_before g.first (more (c i) (one (d i))))));
       runnable = record {
         sound = proper.sound;
         inputs_allowed = names-allowed s.inputs (spelled-allowed s.inputs proper.inputs);
-        parameters_allowed = names-allowed f.search.0 (spelled-allowed f.search.0 n.parameters);
+        parameters_allowed = names-allowed l.search.0 (spelled-allowed l.search.0 n.parameters);
         sort_allowed = output_allowed f.output o.1;
+        wanted = g.wanted;
         condition = r.sorted;
-        main = ap (λ (ps : Option Names). obey (setting s.definitions f.output.1 ps) s.inputs f.main) (sym n.known) ∙ m.obeys;
+        main = ap (λ (ps : Option Names). obey (setting s.definitions f.output.1 ps) s.inputs l.main) (sym n.known) ∙ m.obeys;
         search = n.obeys;
       };
       spelled = record {
@@ -135,6 +165,7 @@ last_told k s t condition ts p proper required e =
         inputs = proper.inputs;
         condition = r.spelled;
         output = o.1;
+        wanted = g.wanted;
         main = m.spelled;
         parameters = n.parameters;
         search = n.spelled;

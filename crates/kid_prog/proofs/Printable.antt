@@ -1,5 +1,5 @@
 -- A program that has a spelling is printed as words and brackets.
-use Rattle.std.proofs.Common.{◌≡◌, ℕ, ◌<◌, Bool, true, false, List, [], ◌∷◌, refl, arith}
+use Rattle.std.proofs.Common.{◌≡◌, ℕ, ◌<◌, Bool, true, false, List, [], ◌∷◌, Option, Some, None, refl, arith}
 use Rattle.std.specs.Prelude.{pos, ◌&&◌, nat_le, not}
 use Rattle.std.specs.List.{list_all}
 use Rattle.std.specs.Fmt.{decimal, signed_decimal}
@@ -11,6 +11,7 @@ use Rattle.kid_value.specs.SortCount.{count_of}
 use Rattle.kid_value.specs.SortLimits.{sort_depth, is_bounded, is_allowed}
 use Rattle.kid_value.proofs.SortLemmas.{and_parts, and_both}
 use Rattle.kid_term.specs.Names.{Names, PlainDef}
+use Rattle.kid_term.specs.PlainSpec.{is_wanted}
 use Rattle.kid_term.specs.PlainTerm.{op, call, cast, PlainTerm, var, number, truth, app, bind, PlainTerms, no_term, term, terms, term_row}
 use Rattle.kid_codec.specs.Name.{is_name}
 use Rattle.kid_codec.specs.Number.{number_of}
@@ -21,7 +22,8 @@ use Rattle.kid_codec.proofs.Found.{both_some}
 use Rattle.kid_codec.proofs.SortBack.{sort_back}
 use Rattle.kid_prog.specs.PlainStmt.{PlainStmt, assign, when, each, emit, call as calling, PlainStmts, no_stmt, stmt}
 use Rattle.kid_prog.specs.PlainProgram.{PlainProgram}
-use Rattle.kid_prog.specs.Spelling.{stmt_spelling, stmt_spellings, names_spelling, definition_spelling, definitions_before, inputs_before, last_forms, program_spelling, is_spelled_stmt, are_spelled_stmts, is_spelled_name, is_spelled_definition, is_spelled_program}
+use Rattle.kid_prog.specs.Spelling.{stmt_spelling, stmt_spellings, names_spelling, definition_spelling, definitions_before, inputs_before, first_before, main_forms, last_forms, program_spelling, is_spelled_stmt, are_spelled_stmts, is_spelled_name, is_spelled_definition, is_spelled_program}
+use Rattle.kid_prog.proofs.FormBack.{count_small}
 use Rattle.kid_prog.proofs.ProgramParts.{spelled_parts}
 use Rattle.kid_prog.proofs.Words.{name_word, decimal_word, number_word, read_number_word, op_word, binder_is_word}
 
@@ -139,6 +141,11 @@ inputs_printable (n ∷ ns) rest h k =
     let r = and_parts (is_spelled_name n) (list_all is_spelled_name ns) h in
     and_both _ (is_printable (inputs_before ns rest)) (name_printable n.0 n.1 r.0) (inputs_printable ns rest r.1 k)
 
+first_printable : (first : Option ℕ) (rest : Plains) → is_wanted first ≡ true → is_printable rest ≡ true → is_printable (first_before first rest) ≡ true
+first_printable None rest h k = k
+first_printable (Some n) rest h k =
+    and_both (is_word (decimal n) && true) (is_printable rest) (alone (is_word (decimal n)) (number_word (pos n) (count_small n h))) k
+
 pub program_printable : (p : PlainProgram) → is_spelled_program p ≡ true → is_printable (program_spelling p) ≡ true
 program_printable p h =
     let s = spelled_parts p h in
@@ -147,6 +154,7 @@ program_printable p h =
     let last : is_printable (last_forms p) ≡ true =
     and_both (is_printable_tree (term_spelling p.condition) && true) _ (alone (is_printable_tree (term_spelling p.condition)) (term_printable p.condition s.condition))
     (and_both (is_word p.output && (is_printable_tree (sort_spelling p.sort) && true)) _ (name_printable p.output p.sort s.output)
-    (and_both (is_printable (stmt_spellings p.main)) _ (stmts_printable p.main s.main) (alone _ search))) in
+    (first_printable p.first (main_forms p) s.wanted
+    (and_both (is_printable (stmt_spellings p.main)) _ (stmts_printable p.main s.main) (alone _ search)))) in
     and_both (is_word (decimal 1) && true) _ (alone (is_word (decimal 1)) (number_word (pos 1) refl))
     (definitions_printable p.definitions (inputs_before p.inputs (last_forms p)) s.definitions (inputs_printable p.inputs (last_forms p) s.inputs last))

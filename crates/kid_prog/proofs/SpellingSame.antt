@@ -1,5 +1,5 @@
 -- Programs with one spelling are one program.
-use Rattle.std.proofs.Common.{◌≡◌, ℕ, true, false, List, [], ◌∷◌, refl, sym, ap, ◌∙◌}
+use Rattle.std.proofs.Common.{◌≡◌, ℕ, true, false, List, [], ◌∷◌, Option, Some, None, Result, Ok, refl, sym, ap, ◌∙◌}
 use Rattle.std.specs.Prelude.{codes}
 use Rattle.std.specs.List.{list_all}
 use Rattle.std.specs.Str.{bytes_eq}
@@ -7,6 +7,7 @@ use Rattle.kid_sexp.specs.Plain.{Plain, Plains, atom, list, none, more}
 use Rattle.kid_value.specs.PlainSort.{PlainSort}
 use Rattle.kid_value.proofs.SortLemmas.{and_parts}
 use Rattle.kid_term.specs.Names.{Names, PlainDef}
+use Rattle.kid_term.specs.PlainSpec.{is_count, is_wanted}
 use Rattle.kid_term.specs.PlainTerm.{PlainTerm}
 use Rattle.kid_codec.specs.Name.{is_name}
 use Rattle.kid_codec.specs.SortSpelling.{sort_spelling, is_spelled_sort, spelled_sort}
@@ -14,11 +15,13 @@ use Rattle.kid_codec.specs.TermSpelling.{term_spelling, is_spelled_term, spelled
 use Rattle.kid_codec.proofs.Found.{same_some}
 use Rattle.kid_codec.proofs.SortBack.{spelled_parts as sort_parts}
 use Rattle.kid_codec.proofs.TermBack.{term_back}
-use Rattle.kid_prog.specs.Forms.{named_pair, spelled_names}
+use Rattle.kid_prog.specs.Forms.{named_pair, spelled_names, first_form}
 use Rattle.kid_prog.specs.PlainProgram.{PlainProgram}
 use Rattle.kid_prog.specs.PlainStmt.{PlainStmts}
-use Rattle.kid_prog.specs.Spelling.{stmt_spellings, named_spelling, names_spelling, definition_spelling, definitions_before, inputs_before, last_forms, program_spelling, are_spelled_stmts, is_spelled_name, is_spelled_definition}
+use Rattle.kid_prog.specs.Spelling.{stmt_spellings, named_spelling, names_spelling, definition_spelling, definitions_before, inputs_before, first_spelling, first_before, main_forms, last_forms, program_spelling, are_spelled_stmts, is_spelled_name, is_spelled_definition}
 use Rattle.kid_prog.specs.StmtShape.{spelled_stmts}
+use Rattle.kid_prog.specs.declared.fault.LoadCode.{LoadCode}
+use Rattle.kid_prog.proofs.FormBack.{first_back}
 use Rattle.kid_prog.proofs.ProgramParts.{IsSpelled}
 use Rattle.kid_prog.proofs.SpellingBack.{named_back, names_back, stmts_back}
 
@@ -108,6 +111,23 @@ inputs_same (m ∷ ms) (n ∷ ns) r s h k p q e =
     let rest = more_same.0 in
     (λ i. one i ∷ rest i, more_same.1)
 
+abbrev given : ℕ → Result ℕ LoadCode
+given n = Ok n
+
+counts_same : (m n : ℕ) → is_count m ≡ true → is_count n ≡ true → first_spelling m ≡ first_spelling n → m ≡ n
+counts_same m n h k e = same_count (sym (first_back m h) ∙ ap first_form e ∙ first_back n k)
+  where
+    same_count : given m ≡ given n → m ≡ n
+    same_count p = cc
+
+first_same : (f g : Option ℕ) (r s : Plains) → is_wanted f ≡ true → is_wanted g ≡ true
+    → bytes_eq (first_word r) (codes "first") ≡ false → bytes_eq (first_word s) (codes "first") ≡ false
+    → first_before f r ≡ first_before g s → (f ≡ g) × (r ≡ s)
+first_same None None r s h k p q e = (refl, e)
+first_same None (Some n) r s h k p q e = absurd (word_differs (codes "first") r (first_before (Some n) s) p refl e)
+first_same (Some m) None r s h k p q e = absurd (word_differs (codes "first") s (first_before (Some m) r) q refl (sym e))
+first_same (Some m) (Some n) r s h k p q e = (ap (λ (c : ℕ). Some c) (counts_same m n h k (ap first e)), ap others e)
+
 inputs_define_nothing : (ns : Names) (p : PlainProgram) → bytes_eq (first_word (inputs_before ns (last_forms p))) (codes "def") ≡ false
 inputs_define_nothing [] p = refl
 inputs_define_nothing (n ∷ ns) p = refl
@@ -121,15 +141,18 @@ spelling_same p q h k e =
     let inputs = n.0 in
     let condition = term_same p.condition q.condition h.condition k.condition (ap (λ (ts : Plains). first (behind (first ts))) n.1) in
     let output = named_same (p.output, p.sort) (q.output, q.sort) h.output k.output (ap (λ (ts : Plains). behind (first (others ts))) n.1) in
-    let main = stmts_same p.main q.main h.main k.main (ap (λ (ts : Plains). behind (first (others (others ts)))) n.1) in
-    let parameters = names_same p.parameters q.parameters h.parameters k.parameters (ap (λ (ts : Plains). inner (first (behind (first (others (others (others ts))))))) n.1) in
-    let search = stmts_same p.search q.search h.search k.search (ap (λ (ts : Plains). others (behind (first (others (others (others ts)))))) n.1) in
+    let f = first_same p.first q.first (main_forms p) (main_forms q) h.wanted k.wanted refl refl (ap (λ (ts : Plains). others (others ts)) n.1) in
+    let wanted = f.0 in
+    let main = stmts_same p.main q.main h.main k.main (ap (λ (ts : Plains). behind (first ts)) f.1) in
+    let parameters = names_same p.parameters q.parameters h.parameters k.parameters (ap (λ (ts : Plains). inner (first (behind (first (others ts))))) f.1) in
+    let search = stmts_same p.search q.search h.search k.search (ap (λ (ts : Plains). others (behind (first (others ts)))) f.1) in
     λ i. record {
       definitions = definitions i;
       inputs = inputs i;
       condition = condition i;
       output = (output i).0;
       sort = (output i).1;
+      first = wanted i;
       main = main i;
       parameters = parameters i;
       search = search i;

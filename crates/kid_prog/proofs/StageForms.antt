@@ -1,6 +1,6 @@
 -- What a form of a program is where a stage takes it.
-use Rattle.std.proofs.Common.{◌≡◌, ℕ, ℤ, Bool, true, false, List, ◌++◌, Option, Some, None, Ok, Err, refl, ap, ◌∙◌, arith}
-use Rattle.std.specs.Prelude.{pos, ◌&&◌, nat_lt, length, if◌then◌else◌, codes}
+use Rattle.std.proofs.Common.{◌≡◌, ℕ, ℤ, Result, Bool, true, false, List, ◌++◌, Option, Some, None, Ok, Err, refl, sym, ap, ◌∙◌, arith}
+use Rattle.std.specs.Prelude.{pos, negsuc, ◌&&◌, nat_lt, nat_le, length, if◌then◌else◌, codes}
 use Rattle.std.specs.List.{list_all}
 use Rattle.std.specs.Ordering.{int_eq}
 use Rattle.std.proofs.lemmas.Bool.Decides.{Decides-int_eq}
@@ -9,6 +9,7 @@ use Rattle.kid_value.specs.PlainSort.{PlainSort, bools}
 use Rattle.kid_value.specs.SortLimits.{is_allowed}
 use Rattle.kid_value.proofs.SortLemmas.{and_parts, and_both}
 use Rattle.kid_term.specs.Names.{Names}
+use Rattle.kid_term.specs.PlainSpec.{is_count}
 use Rattle.kid_term.specs.PlainTerm.{PlainTerm}
 use Rattle.kid_term.specs.Sorting.{sort_of}
 use Rattle.kid_sorting.specs.Declaring.{are_allowed, is_truth}
@@ -22,9 +23,10 @@ use Rattle.kid_codec.proofs.ShapeTold.{form_told, single_told}
 use Rattle.kid_codec.proofs.TermTold.{term_told}
 use Rattle.kid_prog.specs.PlainStmt.{PlainStmts}
 use Rattle.kid_prog.specs.Rules.{obey}
-use Rattle.kid_prog.specs.Spelling.{named_spelling, names_spelling, stmt_spellings, is_spelled_name, are_spelled_stmts}
+use Rattle.kid_prog.specs.Spelling.{named_spelling, names_spelling, first_spelling, stmt_spellings, is_spelled_name, are_spelled_stmts}
 use Rattle.kid_prog.specs.StmtShape.{spelled_stmts}
-use Rattle.kid_prog.specs.Forms.{names_list, version_of, version_form, named_form, is_undeclared, are_undeclared, input_form, require_form, output_form, first_names, if_proper, known_parameters, setting, main_sorted, main_form, search_parts, search_sorted, search_form}
+use Rattle.kid_prog.specs.Forms.{names_list, version_of, version_form, named_form, is_undeclared, are_undeclared, input_form, require_form, output_form, counted, first_form, first_names, if_proper, known_parameters, setting, main_sorted, main_form, search_parts, search_sorted, search_form}
+use Rattle.kid_prog.specs.declared.fault.LoadCode.{LoadCode}
 use Rattle.kid_prog.specs.declared.fault.LoadCode.TheVariants as code
 use Rattle.kid_prog.proofs.Casts.{sorted_casts, truth_sorted}
 use Rattle.kid_prog.proofs.FormTold.{named_told, names_list_told}
@@ -63,6 +65,26 @@ pub output_told : (s : PlainSignature) (t : Plain) (n : List ℕ × PlainSort) �
 output_told s t n p =
     let r = judged_ok (λ (m : List ℕ × PlainSort). is_undeclared s m.0) (λ (m : List ℕ × PlainSort). is_allowed m.1) (named_form (codes "output") t) n p in
     named_told (codes "output") t n r.0 r.2
+
+-- a number that is handed on
+abbrev given : ℕ → Result ℕ LoadCode
+given n = Ok n
+
+count_found : (o : Option ℤ) (n : ℕ) → counted o ≡ given n → (o ≡ Some (pos n)) × (is_count n ≡ true)
+count_found None n p = cc
+count_found (Some (pos m)) n p = by (nat_le 1 m && nat_le m 1000000) refl p
+  where
+    by : (b : Bool) → is_count m ≡ b → (if b then given m else Err code.Form) ≡ given n → (Some (pos m) ≡ Some (pos n)) × (is_count n ≡ true)
+    by true e p = let same : m ≡ n = cc in (ap (λ (k : ℕ). Some (pos k)) same, ap is_count (sym same) ∙ e)
+    by false e p = cc
+count_found (Some (negsuc m)) n p = cc
+
+pub first_told : (t : Plain) (n : ℕ) → first_form t ≡ Ok n → (t ≡ first_spelling n) × (is_count n ≡ true)
+first_told t n p =
+    let whole = count_found (form (codes "first") t >>= single >>= spelled_number) n p in
+    let m = bind_some (form (codes "first") t >>= single) spelled_number (pos n) whole.0 in
+    let s = bind_some (form (codes "first") t) single m.0 m.1 in
+    (form_told (codes "first") t s.0 s.1 ∙ ap (headed (codes "first")) (single_told s.0 m.0 s.2 ∙ ap one (number_told m.0 (pos n) m.2)), whole.1)
 
 pub record RequireTold (s : PlainSignature) (t : Plain) (c : PlainTerm) : Type 0 where
   pub tree : t ≡ headed (codes "require") (one (term_spelling c))

@@ -18,10 +18,10 @@ use Rattle.kid_sorting.specs.PlainSignature.{PlainSignature}
 use Rattle.kid_codec.proofs.Found.{same_some}
 use Rattle.kid_prog.specs.PlainStmt.{PlainStmt, PlainStmts, stmt_row}
 use Rattle.kid_prog.specs.PlainProgram.{PlainProgram}
-use Rattle.kid_prog.specs.Forms.{is_def, def_form, is_input, input_form, require_form, output_form, search_form}
+use Rattle.kid_prog.specs.Forms.{is_def, def_form, is_input, input_form, require_form, output_form, is_first, first_form, search_form}
 use Rattle.kid_prog.specs.FormAnswers.{CodeFails, Judges}
 use Rattle.kid_prog.specs.StageAnswers.{fault_at, numbered}
-use Rattle.kid_prog.specs.Loading.{Loaded, ◌>>=◌, refused, at, Heading, program_with, at_end, after_main, after_output, after_condition, with_input, after_inputs, defined, next_definition, after_definitions, Fails, Loads}
+use Rattle.kid_prog.specs.Loading.{Loaded, ◌>>=◌, refused, at, Heading, program_with, at_end, after_main, after_first, with_first, after_output, after_condition, with_input, after_inputs, defined, next_definition, after_definitions, Fails, Loads}
 use Rattle.kid_prog.specs.declared.fault.LoadCode.{LoadCode}
 use Rattle.kid_prog.specs.declared.fault.LoadCode.TheVariants as code
 use Rattle.kid_prog.specs.declared.fault.LoadFault.{LoadFault}
@@ -52,11 +52,39 @@ main-next k m h main trees rest tree r s p e are judged held is =
 
 pub condition-next : (k m : ℕ) (s : PlainSignature) (condition : PlainTerm) (trees rest : List Tree) (tree : Tree) (r : Result (List ℕ × Sort) LoadCode) (n : List ℕ × Sort)
     → suc k ≡ m → trees ≡ tree ∷ rest → Judges plain_name r (output_form s (plain tree)) → numbered m r ≡ Ok n
-    → after_condition k s condition (plains trees) ≡ after_output m (record { signature = s; condition = condition; output = plain_name n }) (plains rest)
+    → after_condition k s condition (plains trees) ≡ after_output m (record { signature = s; condition = condition; output = plain_name n; first = None }) (plains rest)
 condition-next k m s condition trees rest tree r n e are judged held =
     ap (λ (ts : List Tree). after_condition k s condition (plains ts)) are
-    ∙ ap (λ j. at j (output_form s (plain tree)) >>= λ output. after_output j (record { signature = s; condition = condition; output = output }) (plains rest)) e
-    ∙ passed plain_name r (output_form s (plain tree)) m n (λ output. after_output m (record { signature = s; condition = condition; output = output }) (plains rest)) judged held
+    ∙ ap (λ j. at j (output_form s (plain tree)) >>= λ output. after_output j (record { signature = s; condition = condition; output = output; first = None }) (plains rest)) e
+    ∙ passed plain_name r (output_form s (plain tree)) m n (λ output. after_output m (record { signature = s; condition = condition; output = output; first = None }) (plains rest)) judged held
+
+-- what the next of the forms after the output leads to
+abbrev first_stage : ℕ → ℕ → Heading → Tree → List Tree → Bool → Loaded PlainProgram
+first_stage k m h tree rest b =
+    if b
+    then (at m (first_form (plain tree)) >>= λ n. after_first m (with_first h n) (plains rest))
+    else after_first k h (plains (tree ∷ rest))
+
+first_staged : (k m : ℕ) (h : Heading) (trees rest : List Tree) (tree : Tree) (b : Bool) → suc k ≡ m → trees ≡ tree ∷ rest → is_first (plain tree) ≡ b
+    → after_output k h (plains trees) ≡ first_stage k m h tree rest b
+first_staged k m h trees rest tree b e are is =
+    ap (λ (ts : List Tree). after_output k h (plains ts)) are
+    ∙ ap (λ j. first_stage k j h tree rest (is_first (plain tree))) e
+    ∙ ap (λ c. first_stage k m h tree rest c) is
+
+pub first-next : (k m : ℕ) (h with_one : Heading) (trees rest : List Tree) (tree : Tree) (r : Result ℕ LoadCode) (n : ℕ)
+    → suc k ≡ m → trees ≡ tree ∷ rest → is_first (plain tree) ≡ true → Judges (λ c. c) r (first_form (plain tree)) → numbered m r ≡ Ok n
+    → with_one ≡ with_first h n
+    → after_output k h (plains trees) ≡ after_first m with_one (plains rest)
+first-next k m h with_one trees rest tree r n e are is judged held grown =
+    first_staged k m h trees rest tree true e are is
+    ∙ passed (λ c. c) r (first_form (plain tree)) m n (λ c. after_first m (with_first h c) (plains rest)) judged held
+    ∙ ap (λ z. after_first m z (plains rest)) (sym grown)
+
+pub first-none : (k : ℕ) (h : Heading) (trees rest : List Tree) (tree : Tree) → trees ≡ tree ∷ rest → is_first (plain tree) ≡ false
+    → after_output k h (plains trees) ≡ after_first k h (plains trees)
+first-none k h trees rest tree are is =
+    first_staged k (suc k) h trees rest tree false refl are is ∙ ap (λ (ts : List Tree). after_first k h (plains ts)) (sym are)
 
 -- what the next of the forms after inputs leads to
 abbrev stage : ℕ → PlainSignature → Tree → List Tree → Bool → Loaded PlainProgram

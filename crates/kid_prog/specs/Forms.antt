@@ -1,8 +1,9 @@
 -- The forms of a program file: what each holds by its shape, and the rules that it meets.
-use Rattle.std.specs.Prelude.{ℕ, ℤ, pos, nat_lt, Bool, true, ◌&&◌, List, [], ◌∷◌, ◌++◌, length, Option, Some, None, Result, Ok, Err, if◌then◌else◌, codes}
+use Rattle.std.specs.Prelude.{ℕ, ℤ, pos, int_le, nat_lt, Bool, true, ◌&&◌, List, [], ◌∷◌, ◌++◌, length, Option, Some, None, Result, Ok, Err, if◌then◌else◌, codes}
 use Rattle.std.specs.Ordering.{int_eq}
 use Rattle.kid_sexp.specs.Plain.{Plain, Plains, atom, list, none, more}
 use Rattle.kid_value.specs.PlainSort.{PlainSort}
+use Rattle.kid_value.specs.Rows.Kinds.{natural}
 use Rattle.kid_value.specs.SortOrder.{both}
 use Rattle.kid_value.specs.SortLimits.{is_allowed}
 use Rattle.kid_term.specs.PlainTerm.{PlainTerm}
@@ -101,6 +102,18 @@ require_form s t =
 
 abbrev pub output_form : PlainSignature → Plain → Result (List ℕ × PlainSort) LoadCode
 output_form s t = judged (λ n. is_undeclared s n.0) (λ n. is_allowed n.1) (named_form (codes "output") t)
+
+-- ---- (first NUMBER), from 1 to 1,000,000
+
+abbrev pub is_first : Plain → Bool
+is_first t = begins (codes "first") t
+
+abbrev pub counted : Option ℤ → Result ℕ LoadCode
+counted None = Err code.Form
+counted (Some n) = if int_le (pos 1) n && int_le n (pos 1000000) then Ok (natural n) else Err code.Form
+
+abbrev pub first_form : Plain → Result ℕ LoadCode
+first_form t = counted (form (codes "first") t >>= single >>= spelled_number)
 
 -- ---- (main STATEMENT ..), which calls the search procedure of the next form, where its parameters are there and not refused
 

@@ -9,7 +9,7 @@ use Rattle.kid_term.specs.Names.{Names, PlainDef}
 use Rattle.kid_sorting.specs.PlainSignature.{PlainSignature}
 use Rattle.kid_prog.specs.PlainStmt.{PlainStmts}
 use Rattle.kid_prog.specs.PlainProgram.{PlainProgram}
-use Rattle.kid_prog.specs.Forms.{version_form, is_def, def_form, is_input, input_form, require_form, output_form, known_parameters, main_form, search_form}
+use Rattle.kid_prog.specs.Forms.{version_form, is_def, def_form, is_input, input_form, require_form, output_form, is_first, first_form, known_parameters, main_form, search_form}
 use Rattle.kid_prog.specs.declared.fault.LoadCode.{LoadCode}
 use Rattle.kid_prog.specs.declared.fault.LoadCode.TheVariants as code
 use Rattle.kid_prog.specs.declared.fault.LoadFault.{LoadFault}
@@ -31,6 +31,7 @@ pub record Heading : Type 0 where
   pub signature : PlainSignature
   pub condition : PlainTerm
   pub output : List ℕ × PlainSort
+  pub first : Option ℕ
 
 abbrev pub program_with : Heading → PlainStmts → Names × PlainStmts → PlainProgram
 program_with h main search = record {
@@ -39,7 +40,7 @@ program_with h main search = record {
   condition = h.condition;
   output = h.output.0;
   sort = h.output.1;
-  first = None;
+  first = h.first;
   main = main;
   parameters = search.0;
   search = search.1;
@@ -57,17 +58,28 @@ after_main k h main none = refused (suc k) code.Form
 after_main k h main (more t ts) =
     at (suc k) (search_form h.signature h.output t) >>= λ search. at_end (suc k) (program_with h main search) ts
 
+abbrev pub after_first : ℕ → Heading → Plains → Loaded PlainProgram
+after_first k h none = refused (suc k) code.Form
+after_first k h (more t ts) =
+    at (suc k) (main_form h.signature h.output.1 (known_parameters h.signature h.output ts) t)
+    >>= λ main. after_main (suc k) h main ts
+
+-- the heading with so many values wanted
+abbrev pub with_first : Heading → ℕ → Heading
+with_first h n = record h { first = Some n }
+
 abbrev pub after_output : ℕ → Heading → Plains → Loaded PlainProgram
 after_output k h none = refused (suc k) code.Form
 after_output k h (more t ts) =
-    at (suc k) (main_form h.signature h.output.1 (known_parameters h.signature h.output ts) t)
-    >>= λ main. after_main (suc k) h main ts
+    if is_first t
+    then (at (suc k) (first_form t) >>= λ n. after_first (suc k) (with_first h n) ts)
+    else after_first k h (more t ts)
 
 abbrev pub after_condition : ℕ → PlainSignature → PlainTerm → Plains → Loaded PlainProgram
 after_condition k s condition none = refused (suc k) code.Form
 after_condition k s condition (more t ts) =
     at (suc k) (output_form s t)
-    >>= λ output. after_output (suc k) (record { signature = s; condition = condition; output = output }) ts
+    >>= λ output. after_output (suc k) (record { signature = s; condition = condition; output = output; first = None }) ts
 
 -- the signature with one more input
 abbrev pub with_input : PlainSignature → List ℕ × PlainSort → PlainSignature

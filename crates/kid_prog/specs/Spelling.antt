@@ -1,7 +1,8 @@
 -- A program as a forest.
-use Rattle.std.specs.Prelude.{pos, Bool, true, ◌&&◌, codes}
+use Rattle.std.specs.Prelude.{ℕ, pos, Bool, true, ◌&&◌, Option, Some, None, codes}
 use Rattle.std.specs.List.{list_all}
 use Rattle.kid_sexp.specs.Plain.{Plain, Plains, atom, list, none, more, one}
+use Rattle.kid_term.specs.PlainSpec.{is_wanted}
 use Rattle.kid_term.specs.PlainTerm.{term_row}
 use Rattle.kid_codec.specs.Name.{is_name}
 use Rattle.kid_codec.specs.SortSpelling.{number_tree, headed}
@@ -22,13 +23,26 @@ abbrev mutual
   stmt_spellings no_stmt = none
   stmt_spellings (stmt s ss) = more (stmt_spelling s) (stmt_spellings ss)
 
+abbrev pub first_spelling : ℕ → Plain
+first_spelling n = headed (codes "first") (one (number_tree (pos n)))
+
+-- where not all values are wanted, the form that says how many, and then the forms after it
+abbrev pub first_before : Option ℕ → Plains → Plains
+first_before None rest = rest
+first_before (Some n) rest = more (first_spelling n) rest
+
+-- the last forms
+abbrev pub main_forms : PlainProgram → Plains
+main_forms p =
+    more (headed (codes "main") (stmt_spellings p.main))
+    (one (headed (codes "search") (more (list (names_spelling p.parameters)) (stmt_spellings p.search))))
+
 -- the forms after the inputs
 abbrev pub last_forms : PlainProgram → Plains
 last_forms p =
     more (headed (codes "require") (one (term_spelling p.condition)))
     (more (headed (codes "output") (named_spelling (p.output, p.sort)))
-    (more (headed (codes "main") (stmt_spellings p.main))
-    (one (headed (codes "search") (more (list (names_spelling p.parameters)) (stmt_spellings p.search))))))
+    (first_before p.first (main_forms p)))
 
 -- the forms of a program in their order
 abbrev pub program_spelling : PlainProgram → Plains
@@ -52,5 +66,5 @@ abbrev mutual
 abbrev pub is_spelled_program : PlainProgram → Bool
 is_spelled_program p =
     list_all is_spelled_definition p.definitions && list_all is_spelled_name p.inputs && is_spelled_term p.condition
-    && is_spelled_name (p.output, p.sort) && are_spelled_stmts p.main
+    && is_spelled_name (p.output, p.sort) && is_wanted p.first && are_spelled_stmts p.main
     && list_all is_spelled_name p.parameters && are_spelled_stmts p.search

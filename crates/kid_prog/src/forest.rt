@@ -1,5 +1,5 @@
 //! The trees of the parts of a program.
-ghost use Rattle.std.specs.Prelude.{◌≡◌, true, IfOk, map, codes};
+ghost use Rattle.std.specs.Prelude.{◌≡◌, true, pos, IfOk, map, codes};
 ghost use Rattle.std.specs.List.{list_all};
 ghost use Rattle.kid_sexp.specs.Plain.{atom, list, none, join, one};
 ghost use Rattle.kid_sexp.specs.Tree.{plain as plain_tree};
@@ -7,6 +7,7 @@ ghost use Rattle.kid_value.specs.NameView.{plain_name};
 ghost use Rattle.kid_term.specs.DefView.{plain_def};
 ghost use Rattle.kid_term.specs.PlainTerm.{term_row};
 ghost use Rattle.kid_term.specs.TermView.{plain_term};
+ghost use Rattle.kid_codec.specs.SortSpelling.{headed, number_tree};
 ghost use Rattle.kid_codec.specs.TermSpelling.{term_spellings, are_spelled_terms};
 ghost use Rattle.kid_prog.specs.PlainStmt.{stmt_row};
 ghost use Rattle.kid_prog.specs.StmtView.{plain_stmt};
@@ -15,7 +16,7 @@ ghost use Rattle.kid_prog.specs.Spelling.{stmt_spelling, stmt_spellings, named_s
 use crate::statement::Stmt;
 use kid_codec::{sort_tree, term_tree};
 use kid_sexp::{Forest, Tree};
-use kid_term::{Def, Term};
+use kid_term::{Def, Literal, Term};
 use kid_value::{Memory, Sort, Text};
 use std::alloc::Global;
 
@@ -32,6 +33,16 @@ pub fn begun(alloc: Global, word: &[u8]) -> Result<Forest, Memory>
     let mut trees = Forest::new(alloc);
     trees.push(word_tree(alloc, word)?)?;
     Ok(trees)
+}
+
+/// The list of a word and a number.
+pub fn number_form(alloc: Global, word: &[u8], number: u32) -> Result<Tree, Memory>
+    ensures { IfOk result (λ t. plain_tree t ≡ headed word.now (one (number_tree (pos number)))) }
+{
+    let mut trees = begun(alloc, word)?;
+    let literal = Term::Lit(Literal::Int(i64::from(number)));
+    trees.push(term_tree(alloc, &literal)?)?;
+    Ok(Tree::List(trees))
 }
 
 /// These trees, and those of terms.

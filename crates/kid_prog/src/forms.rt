@@ -14,7 +14,7 @@ ghost use Rattle.kid_prog.specs.PlainStmt.{stmt_row};
 ghost use Rattle.kid_prog.specs.StmtShape.{spelled_stmts as stmts_of_trees};
 ghost use Rattle.kid_prog.specs.FormAnswers.{Judges};
 ghost use Rattle.kid_prog.specs.FormParts.{behind, alone};
-ghost use Rattle.kid_prog.specs.Forms.{version_of, version_form, is_def, def_parts, def_form, is_input, is_undeclared, named_form, input_form, require_form, output_form, are_undefined, are_undeclared, first_names, if_proper, known_parameters, main_sorted, main_form, search_parts, search_sorted, search_form};
+ghost use Rattle.kid_prog.specs.Forms.{version_of, version_form, is_def, def_parts, def_form, is_input, is_undeclared, named_form, input_form, require_form, output_form, is_first, counted, first_form, are_undefined, are_undeclared, first_names, if_proper, known_parameters, main_sorted, main_form, search_parts, search_sorted, search_form};
 
 use crate::fault::LoadCode;
 use crate::known::Known;
@@ -33,6 +33,9 @@ use std::alloc::Global;
 
 /// A program has no more inputs.
 const MAX_INPUTS: usize = 16;
+
+/// A program asks for no more values.
+const MAX_COUNT: i64 = 1_000_000;
 
 /// The tree that stands alone behind the word.
 fn single_form<'a>(word: &[u8], tree: &'a Tree) -> Option<&'a Tree>
@@ -179,6 +182,36 @@ pub fn output_form(
         return Err(LoadCode::Sort);
     }
     Ok((name, sort))
+}
+
+/// Whether the tree begins as the form does that says how many values are wanted.
+pub fn is_first(tree: &Tree) -> bool
+    ensures { result ≡ is_first (plain tree.now) }
+{
+    form(b"first", tree).is_some()
+}
+
+fn counted(number: Option<i64>) -> Result<u32, LoadCode>
+    ensures { Judges (λ n. n) result (counted number) }
+{
+    let Some(count) = number else {
+        return Err(LoadCode::Form);
+    };
+    if 1 <= count && count <= MAX_COUNT {
+        Ok(count as u32)
+    } else {
+        Err(LoadCode::Form)
+    }
+}
+
+/// `(first NUMBER)`, with a number from 1 to 1,000,000.
+pub fn first_form(tree: &Tree) -> Result<u32, LoadCode>
+    ensures { Judges (λ n. n) result (first_form (plain tree.now)) }
+{
+    match single_form(b"first", tree) {
+        Some(number) => counted(spelled_number(number)),
+        None => Err(LoadCode::Form),
+    }
 }
 
 /// Whether no definition has one of the names.

@@ -10,12 +10,12 @@ ghost use Rattle.kid_prog.specs.FormAnswers.{Judges};
 ghost use Rattle.kid_prog.specs.StageAnswers.{fault_at, numbered};
 ghost use Rattle.kid_prog.specs.HeadingView.{plain_heading};
 ghost use Rattle.kid_prog.specs.Laws.{IsLoaded};
-ghost use Rattle.kid_prog.specs.Loading.{Loads, program_with, at_end, after_main, after_output, after_condition, after_inputs, next_definition, after_definitions, program_from, loading};
+ghost use Rattle.kid_prog.specs.Loading.{Loads, program_with, at_end, after_main, after_first, with_first, after_output, after_condition, after_inputs, next_definition, after_definitions, program_from, loading};
 
 use crate::fault::{LoadCode, LoadFault};
 use crate::forms::{
-    def_form, input_form, is_def, is_input, known_parameters, main_form, output_form, require_form,
-    search_form, version_form,
+    def_form, first_form, input_form, is_def, is_first, is_input, known_parameters, main_form,
+    output_form, require_form, search_form, version_form,
 };
 use crate::known::Known;
 use crate::program::Program;
@@ -36,6 +36,7 @@ struct Heading {
     condition: Term,
     output: Text,
     sort: Sort,
+    first: Option<u32>,
 }
 
 fn fault_at(number: u32, code: LoadCode) -> LoadFault
@@ -65,13 +66,14 @@ fn program_with(heading: Heading, main: Stmts, parameters: Names, search: Stmts)
         condition,
         output,
         sort,
+        first,
     } = heading;
     Program {
         signature,
         condition,
         output,
         sort,
-        first: None,
+        first,
         main,
         parameters,
         search,
@@ -130,6 +132,43 @@ fn main_before(
     main_form(alloc, signature, &heading.sort, parameters.as_ref(), tree)
 }
 
+fn after_first(
+    alloc: Global,
+    before: u32,
+    heading: Heading,
+    trees: &[Tree],
+) -> Result<Program, LoadFault>
+    requires { before + length trees.now + 1 < 2 ^ 32 }
+    ensures { Loads plain_program result (after_first before (plain_heading heading) (plains trees.now)) }
+{
+    let number = before + 1;
+    let Some((tree, rest)) = trees.split_first() else {
+        return Err(fault_at(number, LoadCode::Form));
+    };
+    let main = at(number, main_before(alloc, &heading, tree, rest))?;
+    after_main(alloc, number, heading, main, rest)
+}
+
+/// The heading with so many values wanted.
+fn with_first(heading: Heading, count: u32) -> Heading
+    ensures { plain_heading result ≡ with_first (plain_heading heading) count }
+{
+    let Heading {
+        signature,
+        condition,
+        output,
+        sort,
+        ..
+    } = heading;
+    Heading {
+        signature,
+        condition,
+        output,
+        sort,
+        first: Some(count),
+    }
+}
+
 fn after_output(
     alloc: Global,
     before: u32,
@@ -143,8 +182,12 @@ fn after_output(
     let Some((tree, rest)) = trees.split_first() else {
         return Err(fault_at(number, LoadCode::Form));
     };
-    let main = at(number, main_before(alloc, &heading, tree, rest))?;
-    after_main(alloc, number, heading, main, rest)
+    if is_first(tree) {
+        let count = at(number, first_form(tree))?;
+        after_first(alloc, number, with_first(heading, count), rest)
+    } else {
+        after_first(alloc, before, heading, trees)
+    }
 }
 
 fn after_condition(
@@ -167,6 +210,7 @@ fn after_condition(
         condition,
         output,
         sort,
+        first: None,
     };
     after_output(alloc, number, heading, rest)
 }
@@ -262,6 +306,7 @@ fn read_program(alloc: Global, bytes: &[u8]) -> Result<Program, LoadFault>
 /// - `(input NAME SORT)`, up to 16 times
 /// - `(require TERM)`, a truth value over the inputs
 /// - `(output NAME SORT)`
+/// - `(first NUMBER)`, from 1 to 1,000,000, or none of it where all values are wanted
 /// - `(main STATEMENT ..)`, over the inputs
 /// - `(search ((NAME SORT) ..) STATEMENT ..)`, over its parameters and the inputs
 ///

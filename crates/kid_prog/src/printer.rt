@@ -1,25 +1,25 @@
 ghost use Rattle.std.specs.Prelude.{◌≡◌, true, IfOk, codes, pos};
-ghost use Rattle.kid_sexp.specs.Plain.{list, more, none, one};
+ghost use Rattle.kid_sexp.specs.Plain.{join, list, more, none, one};
 ghost use Rattle.kid_sexp.specs.Tree.{plain as plain_tree};
 ghost use Rattle.kid_codec.specs.SortSpelling.{number_tree, headed};
 ghost use Rattle.kid_codec.specs.TermSpelling.{term_spelling};
 ghost use Rattle.kid_prog.specs.ProgramView.{plain_program};
-ghost use Rattle.kid_prog.specs.Spelling.{named_spelling, names_spelling, stmt_spellings, definitions_before, inputs_before, program_spelling, is_spelled_program};
+ghost use Rattle.kid_prog.specs.Spelling.{first_before, named_spelling, names_spelling, stmt_spellings, definitions_before, inputs_before, program_spelling, is_spelled_program};
 ghost use Rattle.kid_prog.specs.ProgramText.{program_text};
 
-use crate::forest::{begun, names_tree, with_definitions, with_inputs, with_name, with_statements};
+use crate::forest::{
+    begun, names_tree, number_form, with_definitions, with_inputs, with_name, with_statements,
+};
 use crate::program::Program;
 use kid_codec::term_tree;
 use kid_sexp::{Forest, PrintFault, Tree, print};
-use kid_value::{Memory, Text};
+use kid_value::Memory;
 use std::alloc::Global;
 
 fn version_tree(alloc: Global) -> Result<Tree, Memory>
     ensures { IfOk result (λ t. plain_tree t ≡ headed (codes "program") (one (number_tree (pos 1)))) }
 {
-    let mut trees = begun(alloc, b"program")?;
-    trees.push(Tree::Atom(Text::from_slice(alloc, b"1")?))?;
-    Ok(Tree::List(trees))
+    number_form(alloc, b"program", 1)
 }
 
 fn condition_tree(alloc: Global, program: &Program) -> Result<Tree, Memory>
@@ -37,6 +37,16 @@ fn output_tree(alloc: Global, program: &Program) -> Result<Tree, Memory>
 {
     let trees = begun(alloc, b"output")?;
     Ok(Tree::List(with_name(alloc, trees, &program.output, &program.sort)?))
+}
+
+/// These forms, and the one that says how many values are wanted, where not all are.
+fn with_first(alloc: Global, mut forms: Forest, first: Option<u32>) -> Result<Forest, Memory>
+    ensures { IfOk result (λ f. f ≡ join forms (first_before first none)) }
+{
+    if let Some(count) = first {
+        forms.push(number_form(alloc, b"first", count)?)?;
+    }
+    Ok(forms)
 }
 
 fn main_tree(alloc: Global, program: &Program) -> Result<Tree, Memory>
@@ -75,6 +85,7 @@ fn program_forest(alloc: Global, program: &Program) -> Result<Forest, Memory>
     let mut forms = first_forms(alloc, program)?;
     forms.push(condition_tree(alloc, program)?)?;
     forms.push(output_tree(alloc, program)?)?;
+    let mut forms = with_first(alloc, forms, program.first)?;
     forms.push(main_tree(alloc, program)?)?;
     forms.push(search_tree(alloc, program)?)?;
     Ok(forms)
@@ -82,7 +93,8 @@ fn program_forest(alloc: Global, program: &Program) -> Result<Forest, Memory>
 
 /// The text of a program: its forms in their order, each on a line of its own that byte 10 ends, with one space between
 /// the members of a list. Each name in the program must be a name, each sort an allowed one that holds no `Never`, and each
-/// term one that `kid_codec::term_tree` takes. The programs that `load` gives are such.
+/// term one that `kid_codec::term_tree` takes. Where not all values are wanted, from 1 to 1,000,000 are. The programs that `load`
+/// gives are such.
 ///
 /// # Errors
 ///

@@ -4,4 +4,6 @@
 #[cfg(test)]
 mod definitions;
 #[cfg(test)]
+mod first;
+#[cfg(test)]
 mod programs;

@@ -1,11 +1,13 @@
 -- The form of what keeps the rules is not refused.
-use Rattle.std.proofs.Common.{◌≡◌, ℕ, Bool, true, List, [], length, Option, Ok, ap, ◌∙◌}
-use Rattle.std.specs.Prelude.{nat_lt, not, ◌&&◌, codes}
+use Rattle.std.proofs.Common.{◌≡◌, ℕ, ℤ, Bool, true, List, [], length, Option, Ok, refl, ap, ◌∙◌, arith}
+use Rattle.std.specs.Prelude.{pos, negsuc, int_le, nat_le, nat_lt, not, ◌&&◌, codes}
+use Rattle.std.proofs.lemmas.Bool.Decides.{nat_tests}
 use Rattle.kid_sexp.specs.Plain.{Plains, atom, one}
 use Rattle.kid_value.specs.PlainSort.{PlainSort}
-use Rattle.kid_value.specs.SortLimits.{is_allowed}
+use Rattle.kid_value.specs.SortLimits.{in_limits, is_allowed}
 use Rattle.kid_value.proofs.SortLemmas.{and_parts, and_both}
 use Rattle.kid_term.specs.Names.{Names, PlainDef}
+use Rattle.kid_term.specs.PlainSpec.{is_count}
 use Rattle.kid_term.specs.PlainTerm.{PlainTerm}
 use Rattle.kid_term.specs.Sorting.{sort_of}
 use Rattle.kid_sorting.specs.Declaring.{is_truth, is_sorted_definition, is_shallow}
@@ -13,14 +15,15 @@ use Rattle.kid_codec.specs.DeclaredSpelling.{named_spelling, definition_spelling
 use Rattle.kid_codec.specs.Name.{is_name}
 use Rattle.kid_codec.specs.SortSpelling.{headed}
 use Rattle.kid_codec.specs.TermSpelling.{term_spelling, is_spelled_term}
+use Rattle.kid_codec.proofs.Numbers.{number_of-decimal}
 use Rattle.kid_kernel.specs.PlainLaw.{PlainLaw}
 use Rattle.kid_theory.specs.Ahead.{calls_ahead}
 use Rattle.kid_theory.specs.Formed.{is_wordless, is_wordless_definition, is_wordless_law, names_of, is_formed_definition}
-use Rattle.kid_theory.specs.Forms.{title_form, judged_definition, definition_form, judged_name, input_form, output_form, condition_form, is_sorted_law, is_named_law, judged_law, axiom_form}
+use Rattle.kid_theory.specs.Forms.{title_form, judged_definition, definition_form, judged_name, input_form, output_form, condition_form, counted, first_form, is_sorted_law, is_named_law, judged_law, axiom_form}
 use Rattle.kid_theory.specs.IsTheory.{is_spelled_axiom}
 use Rattle.kid_theory.specs.Judged.{◌>>=◌, shaped, tested}
 use Rattle.kid_theory.specs.Shapes.{declared_form}
-use Rattle.kid_theory.specs.Spelling.{axiom_spelling}
+use Rattle.kid_theory.specs.Spelling.{axiom_spelling, first_spelling}
 use Rattle.kid_theory.specs.Taken.{Taken, is_free, are_free}
 use Rattle.kid_theory.specs.declared.fault.TheoryCode.TheVariants as code
 use Rattle.kid_theory.proofs.Passed.{found}
@@ -34,6 +37,15 @@ pub condition_passed : (word : List ℕ) (defs : List PlainDef) (names : Names) 
 condition_passed word defs names c spelled wordless truth =
     ap (λ (o : Option PlainTerm). shaped o >>= λ d. tested (is_truth (sort_of defs names d)) code.Sort (found d)) (lone_term_shaped word c spelled wordless)
     ∙ ap (λ (b : Bool). tested b code.Sort (found c)) truth
+
+count_small : (n : ℕ) → is_count n ≡ true → in_limits (pos n) ≡ true
+count_small n h =
+    let r = and_parts (nat_le 1 n) (nat_le n 1000000) h in
+    and_both (int_le (negsuc 4611686018427387903) (pos n)) (int_le (pos n) (pos 4611686018427387904)) refl (grind (arith, nat_tests))
+
+pub first_passed : (n : ℕ) → is_count n ≡ true → first_form (first_spelling n) ≡ Ok n
+first_passed n h =
+    ap (λ (o : Option ℤ). shaped o >>= counted) (number_of-decimal (pos n) (count_small n h)) ∙ ap (λ (b : Bool). tested b code.Form (found n)) h
 
 name_passed : (taken : Taken) (n : List ℕ × PlainSort) → is_free taken n.0 ≡ true → is_allowed n.1 ≡ true → judged_name taken n ≡ Ok n
 name_passed taken n free allowed = λ i. tested (free i) code.Name (tested (allowed i) code.Sort (found n))

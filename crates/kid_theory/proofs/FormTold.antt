@@ -1,25 +1,27 @@
 -- What a form of a theory tells that was not refused: it is the tree of what it holds, which has a spelling and keeps the rules.
-use Rattle.std.proofs.Common.{◌≡◌, ℕ, true, List, [], length, Some, Ok, refl, sym, ap, ◌∙◌, subst}
-use Rattle.std.specs.Prelude.{nat_lt, not, ◌&&◌, codes}
-use Rattle.kid_sexp.specs.Plain.{Plain, Plains, atom, one}
+use Rattle.std.proofs.Common.{◌≡◌, ℕ, ℤ, Bool, true, false, List, [], length, Some, Ok, refl, sym, ap, ◌∙◌, subst}
+use Rattle.std.specs.Prelude.{pos, negsuc, nat_le, nat_lt, not, ◌&&◌, codes}
+use Rattle.kid_sexp.specs.Plain.{Plain, Plains, atom, list, one}
 use Rattle.kid_value.specs.PlainSort.{PlainSort, bools}
 use Rattle.kid_value.specs.SortLimits.{is_allowed}
 use Rattle.kid_value.proofs.SortLemmas.{and_parts}
 use Rattle.kid_term.specs.Names.{Names, PlainDef}
+use Rattle.kid_term.specs.PlainSpec.{is_count}
 use Rattle.kid_term.specs.PlainTerm.{PlainTerm}
 use Rattle.kid_term.specs.Sorted.{Sorted}
 use Rattle.kid_term.specs.Sorting.{sort_of}
 use Rattle.kid_sorting.specs.Declaring.{is_truth, is_sorted_definition, is_shallow}
 use Rattle.kid_codec.specs.DeclaredSpelling.{named_spelling, definition_spelling, is_spelled_name, is_spelled_definition}
 use Rattle.kid_codec.specs.Name.{is_name}
-use Rattle.kid_codec.specs.SortSpelling.{headed}
+use Rattle.kid_codec.specs.SortSpelling.{headed, number_tree, spelled_number}
 use Rattle.kid_codec.specs.TermSpelling.{term_spelling, is_spelled_term}
-use Rattle.kid_codec.proofs.Found.{bind_some}
+use Rattle.kid_codec.proofs.Found.{bind_some, number_from}
 use Rattle.kid_theory.specs.Ahead.{calls_ahead}
 use Rattle.kid_theory.specs.Judged.{Judged, ◌>>=◌, shaped, tested}
-use Rattle.kid_theory.specs.Shapes.{word_of, lone, lone_word, lone_term, declared_form, definition_shape}
+use Rattle.kid_theory.specs.Shapes.{word_of, lone, lone_word, lone_number, lone_term, declared_form, definition_shape}
 use Rattle.kid_theory.specs.Taken.{Taken, is_free, are_free}
-use Rattle.kid_theory.specs.Forms.{title_form, judged_definition, definition_form, judged_name, input_form, output_form, condition_form}
+use Rattle.kid_theory.specs.Forms.{title_form, judged_definition, definition_form, judged_name, input_form, output_form, condition_form, counted, first_form}
+use Rattle.kid_theory.specs.Spelling.{first_spelling}
 use Rattle.kid_theory.specs.declared.fault.TheoryCode.TheVariants as code
 use Rattle.kid_theory.proofs.ShapeTold.{free_name, word_tree, lone_tree, declared_form_told, lone_truth_told, definition_told}
 use Rattle.kid_theory.proofs.Passed.{found, found_same, tested_ok, shaped_ok}
@@ -48,6 +50,26 @@ condition_told word defs names t c p =
     let sorted = truth_sorted (sort_of defs names d) q.0 in
     let k = lone_truth_told word defs names t d s.1 q.0 in
     (ap (λ (e : PlainTerm). sort_of defs names e) (sym same) ∙ sorted, ap is_spelled_term (sym same) ∙ k.1, k.0 ∙ ap (λ (e : PlainTerm). headed word (one (term_spelling e))) same)
+
+number_told : (t : Plain) (n : ℤ) → spelled_number t ≡ Some n → t ≡ number_tree n
+number_told (atom w) n p = ap atom (number_from w n p).0
+number_told (list ts) n p = cc
+
+-- a number that is handed on is a count
+count_found : (z : ℤ) (n : ℕ) → counted z ≡ found n → (z ≡ pos n) × (is_count n ≡ true)
+count_found (pos m) n p =
+    let a = tested_ok (is_count m) code.Form (found m) n p in
+    let same = found_same m n a.1 in
+    (ap pos same, ap is_count (sym same) ∙ a.0)
+count_found (negsuc m) n p = cc
+
+pub first_told : (t : Plain) (n : ℕ) → first_form t ≡ Ok n → (t ≡ first_spelling n) × (is_count n ≡ true)
+first_told t n p =
+    let s = shaped_ok (lone_number (codes "first") t) counted n p in
+    let z : ℤ = s.0 in
+    let c = count_found z n s.2 in
+    let m = bind_some (lone (codes "first") t) spelled_number z s.1 in
+    (lone_tree (codes "first") t m.0 m.1 ∙ ap (λ (u : Plain). headed (codes "first") (one u)) (number_told m.0 z m.2 ∙ ap number_tree c.0), c.1)
 
 -- a name that is new with an allowed sort, which has a spelling
 pub record NameTold (taken : Taken) (n : List ℕ × PlainSort) : Type 0 where

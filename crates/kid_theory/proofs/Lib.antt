@@ -18,3 +18,4 @@ pub mod Stages
 pub mod TakenLemmas
 pub mod TheoryTold
 pub mod TermRows
+pub mod FirstTold

@@ -1,5 +1,5 @@
 -- A file that spells a theory which keeps the rules is read as that theory.
-use Rattle.std.proofs.Common.{◌≡◌, ℕ, suc, ◌+◌, ◌≤◌, Bool, true, List, [], ◌∷◌, ◌++◌, length, Ok, refl, sym, ap, ◌∙◌, subst, arith, append_assoc, append-nil}
+use Rattle.std.proofs.Common.{◌≡◌, ℕ, suc, ◌+◌, ◌≤◌, Bool, true, List, [], ◌∷◌, ◌++◌, length, Option, Some, None, Ok, refl, sym, ap, ◌∙◌, subst, arith, append_assoc, append-nil}
 use Rattle.std.specs.Prelude.{◌&&◌, nat_le, nat_lt, if◌then◌else◌, codes}
 use Rattle.std.specs.List.{list_all}
 use Rattle.std.proofs.lemmas.Bool.Decides.{nat_tests}
@@ -11,7 +11,8 @@ use Rattle.kid_value.specs.PlainSort.{PlainSort}
 use Rattle.kid_value.specs.SortLimits.{is_allowed}
 use Rattle.kid_value.proofs.SortLemmas.{and_parts}
 use Rattle.kid_term.specs.Names.{Names, PlainDef}
-use Rattle.kid_term.specs.PlainSpec.{relation_scope}
+use Rattle.kid_term.specs.PlainSpec.{is_wanted, relation_scope}
+use Rattle.kid_term.specs.PlainTerm.{PlainTerm}
 use Rattle.kid_sorting.specs.Declaring.{are_allowed}
 use Rattle.kid_codec.specs.DeclaredSpelling.{named_spelling, definition_spelling, definitions_before, inputs_before, is_spelled_name, is_spelled_definition}
 use Rattle.kid_codec.specs.SortSpelling.{headed}
@@ -19,14 +20,15 @@ use Rattle.kid_codec.specs.TermSpelling.{term_spelling, is_spelled_term}
 use Rattle.kid_kernel.specs.PlainLaw.{PlainLaw}
 use Rattle.kid_kernel.specs.PlainTheory.{PlainTheory}
 use Rattle.kid_theory.specs.Formed.{is_wordless, is_wordless_definition, is_wordless_law, is_wordless_theory, names_of, is_formed_definition, are_formed_definitions, are_named_before, names_before_axioms, IsFormed, FormedTheoriesAreRead}
-use Rattle.kid_theory.specs.Forms.{title_form, definition_form, input_form, output_form, condition_form, is_named_law, is_sorted_law, axiom_form}
+use Rattle.kid_theory.specs.Forms.{title_form, definition_form, input_form, output_form, condition_form, first_form, is_named_law, is_sorted_law, axiom_form}
 use Rattle.kid_theory.specs.IsTheory.{is_spelled_theory, is_spelled_axiom}
 use Rattle.kid_theory.specs.Judged.{Judged}
-use Rattle.kid_theory.specs.Reading.{Read, ◌>>=◌, refused, numbered, at, Front, with_axiom, theory_with, at_end, after_output, after_condition, after_inputs, after_definitions, theory_from, from_forest, front_of}
-use Rattle.kid_theory.specs.Spelling.{axiom_spelling, axioms_before, last_forms, later_forms, theory_spelling}
+use Rattle.kid_theory.specs.Reading.{Read, ◌>>=◌, refused, numbered, at, Front, with_axiom, theory_with, at_end, with_first, after_relation, after_output, after_condition, after_inputs, after_definitions, theory_from, from_forest, front_of}
+use Rattle.kid_theory.specs.Spelling.{axiom_spelling, axioms_before, first_spelling, first_before, last_forms, later_forms, theory_spelling}
 use Rattle.kid_theory.specs.Taken.{Taken, is_free, are_free, words_of}
 use Rattle.kid_theory.specs.declared.fault.TheoryCode.TheVariants as code
-use Rattle.kid_theory.proofs.FormBack.{title_passed, condition_passed, output_passed, input_passed, definition_passed, axiom_passed}
+use Rattle.kid_theory.proofs.FirstTold.{wanting}
+use Rattle.kid_theory.proofs.FormBack.{title_passed, condition_passed, first_passed, output_passed, input_passed, definition_passed, axiom_passed}
 
 is_at_most : (n limit : ℕ) → n ≤ limit → nat_le n limit ≡ true
 is_at_most n limit h = grind (arith, nat_tests)
@@ -118,7 +120,7 @@ output_of t = (t.spec.output, t.spec.sort)
 
 -- what a theory's parts give is the theory
 whole_theory : (t : PlainTheory) (axioms : List PlainLaw) (taken variables : Taken) → axioms ≡ t.axioms → t.laws ≡ [] → t.signature.inputs ≡ t.spec.inputs
-    → theory_with (front t axioms taken variables) (output_of t) t.spec.relation ≡ t
+    → wanting (theory_with (front t axioms taken variables) (output_of t) t.spec.relation) t.spec.first ≡ t
 whole_theory t axioms taken variables is no_laws same =
     let empty = sym no_laws in
     let inputs = sym same in
@@ -167,19 +169,29 @@ parts_of t spelled wordless =
 abbrev ConditionRead : PlainTheory → List PlainLaw → Taken → Taken → Plains → Type 0
 ConditionRead t axioms taken variables ts = Reads (λ k us. after_condition k (front t axioms taken variables) us) ts t
 
+-- how many answers are wanted
+first_read : (f : Front) (output : List ℕ × PlainSort) (relation : PlainTerm) (first : Option ℕ) (t : PlainTheory) → is_wanted first ≡ true
+    → wanting (theory_with f output relation) first ≡ t → Reads (λ k us. after_relation k (theory_with f output relation) us) (first_before first none) t
+first_read f output relation None t h is = λ k few. ap read is
+first_read f output relation (Some n) t h is = λ k few.
+    let few_further = further k (first_spelling n) none few in
+    passed (suc k) (first_form (first_spelling n)) (λ m. at_end (suc k) (with_first (theory_with f output relation) m) none) n t few_further.0 (first_passed n h) (ap read is)
+
 relation_read : (name : List ℕ) (t : PlainTheory) (axioms : List PlainLaw) (taken variables : Taken) → IsFormed name t → Parts t → axioms ≡ t.axioms
-    → Reads (λ k us. after_output k (front t axioms taken variables) (output_of t) us) (one (headed (codes "ensure") (one (term_spelling t.spec.relation)))) t
+    → Reads (λ k us. after_output k (front t axioms taken variables) (output_of t) us) (more (headed (codes "ensure") (one (term_spelling t.spec.relation))) (first_before t.spec.first none)) t
 relation_read name t axioms taken variables formed parts is = λ k few.
-    let few_further = further k (headed (codes "ensure") (one (term_spelling t.spec.relation))) none few in
+    let us : Plains = first_before t.spec.first none in
+    let few_further = further k (headed (codes "ensure") (one (term_spelling t.spec.relation))) us few in
     passed (suc k) (condition_form (codes "ensure") t.signature.definitions (relation_scope t.spec) (headed (codes "ensure") (one (term_spelling t.spec.relation))))
-    (λ relation. at_end (suc k) (theory_with (front t axioms taken variables) (output_of t) relation) none) t.spec.relation t
+    (λ relation. after_relation (suc k) (theory_with (front t axioms taken variables) (output_of t) relation) us) t.spec.relation t
     few_further.0 (condition_passed (codes "ensure") t.signature.definitions (relation_scope t.spec) t.spec.relation parts.relation parts.relation_wordless formed.relation)
-    (ap read (whole_theory t axioms taken variables is formed.no_laws formed.same_inputs))
+    (first_read (front t axioms taken variables) (output_of t) t.spec.relation t.spec.first t formed.wanted
+    (whole_theory t axioms taken variables is formed.no_laws formed.same_inputs) (suc k) few_further.1)
 
 output_read : (name : List ℕ) (t : PlainTheory) (axioms : List PlainLaw) (taken variables : Taken) → IsFormed name t → Parts t → axioms ≡ t.axioms
     → is_free (taken ++ variables) t.spec.output ≡ true → ConditionRead t axioms taken variables (last_forms t)
 output_read name t axioms taken variables formed parts is free = λ k few.
-    let us : Plains = one (headed (codes "ensure") (one (term_spelling t.spec.relation))) in
+    let us : Plains = more (headed (codes "ensure") (one (term_spelling t.spec.relation))) (first_before t.spec.first none) in
     let few_further = further k (headed (codes "output") (named_spelling (output_of t))) us few in
     passed (suc k) (output_form (taken ++ variables) (headed (codes "output") (named_spelling (output_of t))))
     (λ output. after_output (suc k) (front t axioms taken variables) output us) (output_of t) t

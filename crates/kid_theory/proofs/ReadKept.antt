@@ -2,7 +2,6 @@
 use Rattle.std.proofs.Common.{◌≡◌, ℕ, suc, ◌+◌, ◌≤◌, Bool, true, false, if◌then◌else◌, List, [], ◌∷◌, ◌++◌, Result, Ok, refl, sym, ap, ◌∙◌, subst, arith, append_assoc, append-nil}
 use Rattle.std.specs.Prelude.{◌&&◌, nat_le, length, codes}
 use Rattle.std.specs.List.{list_all}
-use Rattle.std.proofs.lemmas.Bool.Decides.{nat_tests}
 use Rattle.std.proofs.lemmas.List.{map-append}
 use Rattle.kid_sexp.specs.Plain.{Plain, Plains, none, more, forest_len}
 use Rattle.kid_sexp.specs.Brackets.{Fault}
@@ -22,32 +21,19 @@ use Rattle.kid_theory.specs.Formed.{is_wordless, is_wordless_definition, is_word
 use Rattle.kid_theory.specs.Forms.{begins, title_form, definition_form, input_form, output_form, condition_form, is_named_law, axiom_form}
 use Rattle.kid_theory.specs.IsTheory.{IsTheory}
 use Rattle.kid_theory.specs.Judged.{Judged}
-use Rattle.kid_theory.specs.Reading.{Read, ◌>>=◌, refused, numbered, at, Front, with_axiom, theory_with, front_of, at_end, after_output, after_condition, after_inputs, after_definitions, theory_from, from_forest}
+use Rattle.kid_theory.specs.Reading.{Read, ◌>>=◌, refused, at, Front, with_axiom, theory_with, front_of, after_relation, after_output, after_condition, after_inputs, after_definitions, theory_from, from_forest}
 use Rattle.kid_theory.specs.Spelling.{later_forms}
 use Rattle.kid_theory.specs.Taken.{Taken, is_free, are_free, words_of}
 use Rattle.kid_theory.specs.declared.fault.TheoryCode.TheVariants as code
 use Rattle.kid_theory.proofs.FormKept.{condition_kept, definition_kept, axiom_kept}
+use Rattle.kid_theory.proofs.FirstTold.{wanted_told}
 use Rattle.kid_theory.proofs.FormTold.{output_told, input_told, definition_form_told}
 use Rattle.kid_theory.proofs.SpellingTold.{AfterDefinitions, inputs_spelled, joined, TheorySpelled, forms_told}
-use Rattle.kid_theory.proofs.Stages.{not_refused, staged, ended, ended_none, read_forest}
+use Rattle.kid_theory.proofs.Stages.{not_refused, staged, at_most, within, read_forest}
 use Rattle.kid_theory.proofs.TheoryTold.{forms_read}
-
-within_by : {A B : Type 0} (b : Bool) (k : ℕ) (r : Judged A) (f : A → Read B) (y : B) → ((if b then numbered k r else refused k code.Limit) >>= f) ≡ Ok y → b ≡ true
-within_by true k r f y e = refl
-within_by false k r f y e = cc
-
-at_most : (n limit : ℕ) → nat_le n limit ≡ true → n ≤ limit
-at_most n limit e = grind (arith, nat_tests)
-
--- the number of a form that is not refused
-within : {A B : Type 0} (k : ℕ) (r : Judged A) (f : A → Read B) (y : B) → (at k r >>= f) ≡ Ok y → k ≤ 1024
-within k r f y e = at_most k 1024 (within_by (nat_le k 1024) k r f y e)
 
 one_more : (k : ℕ) (u : Plain) (us : Plains) → suc k + forest_len us ≤ 1024 → k + forest_len (more u us) ≤ 1024
 one_more k u us few = omega arith
-
-last_two : (k : ℕ) (v u : Plain) (us : Plains) → suc (suc k) ≤ 1024 → us ≡ none → k + forest_len (more v (more u us)) ≤ 1024
-last_two k v u us number is = let empty = ap forest_len is in omega (arith, empty)
 
 -- ---- the forms after the condition
 
@@ -66,14 +52,14 @@ output_kept : (k : ℕ) (f : Front) (output : List ℕ × PlainSort) (v : Plain)
     → after_output (suc k) f output ts ≡ Ok t → AxiomsKept k f (more v ts) t
 output_kept k f output v none t free e = absurd (not_refused (suc (suc k)) code.Form t e)
 output_kept k f output v (more u us) t free e =
-    let stage : PlainTerm → Read PlainTheory = λ relation. at_end (suc (suc k)) (theory_with f output relation) us in
+    let stage : PlainTerm → Read PlainTheory = λ relation. after_relation (suc (suc k)) (theory_with f output relation) us in
     let form : Judged PlainTerm = condition_form (codes "ensure") f.definitions (f.inputs ++ output ∷ []) u in
     let a = staged (suc (suc k)) form stage t e in
     let number = within (suc (suc k)) form stage t e in
-    let last = ended_none (suc (suc k)) (theory_with f output a.0) t us a.2 in
-    subst (AxiomsKept k f (more v (more u us))) (ended (suc (suc k)) (theory_with f output a.0) t us a.2)
+    let last = wanted_told (suc (suc k)) f output a.0 t us number a.2 in
+    subst (AxiomsKept k f (more v (more u us))) last.whole
     (record {
-      few = last_two k v u us number last;
+      few = one_more k v (more u us) (one_more (suc k) u us last.few);
       rest = [];
       axioms = append-nil f.axioms;
       inputs = refl;
@@ -291,6 +277,7 @@ theory_formed u us t told kept theory =
       axioms_named = later.named;
       sort_allowed = theory.sort_allowed;
       relation = ap is_truth theory.relation;
+      wanted = theory.wanted;
     }
 
 forms_kept : (ts : Plains) (t : PlainTheory) (told : TheorySpelled ts t) → theory_from ts ≡ Ok t → IsTheory t → IsFormed told.name t

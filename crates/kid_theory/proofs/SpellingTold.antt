@@ -12,13 +12,15 @@ use Rattle.kid_codec.specs.TermSpelling.{term_spelling}
 use Rattle.kid_kernel.specs.PlainLaw.{PlainLaw}
 use Rattle.kid_kernel.specs.PlainTheory.{PlainTheory}
 use Rattle.kid_theory.specs.Forms.{begins, title_form, definition_form, input_form, output_form, condition_form, axiom_form}
-use Rattle.kid_theory.specs.Reading.{◌>>=◌, at, Front, with_axiom, theory_with, front_of, at_end, after_output, after_condition, after_inputs, after_definitions, theory_from}
+use Rattle.kid_theory.specs.Judged.{Judged}
+use Rattle.kid_theory.specs.Reading.{Read, ◌>>=◌, at, Front, with_axiom, theory_with, front_of, after_relation, after_output, after_condition, after_inputs, after_definitions, theory_from}
 use Rattle.kid_theory.specs.Spelling.{axiom_spelling, axioms_before, last_forms, later_forms, theory_spelling}
 use Rattle.kid_theory.specs.Taken.{Taken}
 use Rattle.kid_theory.specs.declared.fault.TheoryCode.TheVariants as code
 use Rattle.kid_theory.proofs.AxiomTold.{axiom_form_told}
+use Rattle.kid_theory.proofs.FirstTold.{wanted_told}
 use Rattle.kid_theory.proofs.FormTold.{title_told, output_told, input_told, condition_told, definition_form_told}
-use Rattle.kid_theory.proofs.Stages.{not_refused, staged, ended, ended_none}
+use Rattle.kid_theory.proofs.Stages.{not_refused, staged, within}
 
 pub joined : {X : Type 0} (before : List X) (x : X) (rest all : List X) → (before ++ x ∷ []) ++ rest ≡ all → before ++ (x ∷ rest) ≡ all
 joined before x rest all p = sym (append_assoc before (x ∷ []) rest) ∙ p
@@ -37,11 +39,14 @@ output_spelled : (k : ℕ) (f : Front) (output : List ℕ × PlainSort) (v : Pla
     → after_output k f output ts ≡ Ok t → AfterCondition f (more v ts) t
 output_spelled k f output v none t is e = absurd (not_refused (suc k) code.Form t e)
 output_spelled k f output v (more u us) t is e =
-    let a = staged (suc k) (condition_form (codes "ensure") f.definitions (f.inputs ++ output ∷ []) u) (λ relation. at_end (suc k) (theory_with f output relation) us) t e in
+    let form : Judged PlainTerm = condition_form (codes "ensure") f.definitions (f.inputs ++ output ∷ []) u in
+    let stage : PlainTerm → Read PlainTheory = λ relation. after_relation (suc k) (theory_with f output relation) us in
+    let a = staged (suc k) form stage t e in
     let relation : PlainTerm = a.0 in
     let c = (condition_told (codes "ensure") f.definitions (f.inputs ++ output ∷ []) u relation a.1).2 in
-    let d = ended_none (suc k) (theory_with f output relation) t us a.2 in
-    subst (AfterCondition f (more v (more u us))) (ended (suc k) (theory_with f output relation) t us a.2)
+    let last = wanted_told (suc k) f output relation t us (within (suc k) form stage t e) a.2 in
+    let d = last.trees in
+    subst (AfterCondition f (more v (more u us))) last.whole
     (record {
       rest = [];
       axioms = append-nil f.axioms;

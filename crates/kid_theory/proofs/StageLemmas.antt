@@ -18,8 +18,8 @@ use Rattle.kid_kernel.specs.declared.law.Axiom.{Axiom}
 use Rattle.kid_kernel.specs.declared.theory.Theory.{Theory}
 use Rattle.kid_theory.specs.Judged.{Judged}
 use Rattle.kid_theory.specs.Answers.{CodeFails, Judges, Fails, Reads, fault_at, placed, located}
-use Rattle.kid_theory.specs.Forms.{begins, definition_form, input_form, output_form, condition_form, axiom_form}
-use Rattle.kid_theory.specs.Reading.{Read, ◌>>=◌, refused, numbered, at, Front, with_axiom, theory_with, front_of, at_end, after_output, after_condition, after_inputs, after_definitions}
+use Rattle.kid_theory.specs.Forms.{begins, definition_form, input_form, output_form, condition_form, first_form, axiom_form}
+use Rattle.kid_theory.specs.Reading.{Read, ◌>>=◌, refused, numbered, at, Front, with_axiom, theory_with, front_of, at_end, with_first, after_relation, after_output, after_condition, after_inputs, after_definitions}
 use Rattle.kid_theory.specs.Taken.{Taken}
 use Rattle.kid_theory.specs.declared.fault.TheoryCode.{TheoryCode}
 use Rattle.kid_theory.specs.declared.fault.TheoryCode.TheVariants as code
@@ -75,10 +75,10 @@ failed view r there k fault f o staged judged found =
 
 output-stage : (k m : ℕ) (f : Front) (output : List ℕ × PlainSort) (trees rest : List Tree) (tree : Tree) → suc k ≡ m → trees ≡ tree ∷ rest
     → after_output k f output (plains trees)
-    ≡ (at m (condition_form (codes "ensure") f.definitions (f.inputs ++ output ∷ []) (plain tree)) >>= λ relation. at_end m (theory_with f output relation) (plains rest))
+    ≡ (at m (condition_form (codes "ensure") f.definitions (f.inputs ++ output ∷ []) (plain tree)) >>= λ relation. after_relation m (theory_with f output relation) (plains rest))
 output-stage k m f output trees rest tree e are =
     ap (λ (ts : List Tree). after_output k f output (plains ts)) are
-    ∙ ap (λ j. at j (condition_form (codes "ensure") f.definitions (f.inputs ++ output ∷ []) (plain tree)) >>= λ relation. at_end j (theory_with f output relation) (plains rest)) e
+    ∙ ap (λ j. at j (condition_form (codes "ensure") f.definitions (f.inputs ++ output ∷ []) (plain tree)) >>= λ relation. after_relation j (theory_with f output relation) (plains rest)) e
 
 abbrev condition_if : ℕ → Front → Tree → List Tree → Bool → Read PlainTheory
 condition_if k f tree rest b =
@@ -149,16 +149,30 @@ definition-stage : (k m : ℕ) (defs : List PlainDef) (taken : Taken) (trees res
     ≡ (at m (definition_form defs taken (plains rest) (plain tree)) >>= λ d. after_definitions m (defs ++ d ∷ []) (taken ++ d.name ∷ []) (plains rest))
 definition-stage k m defs taken trees rest tree e are is = definitions_stage k m defs taken trees rest tree true e are is
 
+relation_stage : (k m : ℕ) (t : PlainTheory) (trees rest : List Tree) (tree : Tree) → suc k ≡ m → trees ≡ tree ∷ rest
+    → after_relation k t (plains trees) ≡ (at m (first_form (plain tree)) >>= λ n. at_end m (with_first t n) (plains rest))
+relation_stage k m t trees rest tree e are =
+    ap (λ (ts : List Tree). after_relation k t (plains ts)) are
+    ∙ ap (λ j. at j (first_form (plain tree)) >>= λ n. at_end j (with_first t n) (plains rest)) e
+
 -- ---- what comes after a form that was not refused
+
+pub first-next : (k m : ℕ) (t u : PlainTheory) (trees rest : List Tree) (tree : Tree) (r : Result ℕ TheoryCode) (n : ℕ)
+    → suc k ≡ m → trees ≡ tree ∷ rest → Judges (λ c. c) r (first_form (plain tree)) → located m r ≡ Ok n → u ≡ with_first t n
+    → after_relation k t (plains trees) ≡ at_end m u (plains rest)
+first-next k m t u trees rest tree r n e are judged found is =
+    held (λ c. c) r (first_form (plain tree)) m n (λ c. at_end m (with_first t c) (plains rest))
+    (after_relation k t (plains trees)) (relation_stage k m t trees rest tree e are) judged found
+    ∙ ap (λ v. at_end m v (plains rest)) (sym is)
 
 pub relation-next : (k m : ℕ) (f : Front) (output : List ℕ × PlainSort) (trees rest : List Tree) (tree : Tree) (r : Result Term TheoryCode) (x : Term) (t : PlainTheory)
     → suc k ≡ m → trees ≡ tree ∷ rest → Judges plain_term r (condition_form (codes "ensure") f.definitions (f.inputs ++ output ∷ []) (plain tree)) → located m r ≡ Ok x
     → t ≡ theory_with f output (plain_term x)
-    → after_output k f output (plains trees) ≡ at_end m t (plains rest)
+    → after_output k f output (plains trees) ≡ after_relation m t (plains rest)
 relation-next k m f output trees rest tree r x t e are judged found is =
-    held plain_term r (condition_form (codes "ensure") f.definitions (f.inputs ++ output ∷ []) (plain tree)) m x (λ relation. at_end m (theory_with f output relation) (plains rest))
+    held plain_term r (condition_form (codes "ensure") f.definitions (f.inputs ++ output ∷ []) (plain tree)) m x (λ relation. after_relation m (theory_with f output relation) (plains rest))
     (after_output k f output (plains trees)) (output-stage k m f output trees rest tree e are) judged found
-    ∙ ap (λ u. at_end m u (plains rest)) (sym is)
+    ∙ ap (λ u. after_relation m u (plains rest)) (sym is)
 
 pub axiom-next : (k m : ℕ) (f g : Front) (trees rest : List Tree) (tree : Tree) (r : Result Axiom TheoryCode) (x : Axiom)
     → suc k ≡ m → trees ≡ tree ∷ rest → begins (codes "axiom") (plain tree) ≡ true → Judges plain_axiom r (axiom_form f.definitions f.inputs f.taken f.variables (plain tree))

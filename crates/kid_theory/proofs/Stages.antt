@@ -1,6 +1,7 @@
 -- What a stage of reading found, where it did not refuse.
-use Rattle.std.proofs.Common.{◌≡◌, ℕ, suc, Bool, true, false, List, Result, Ok, Err, refl}
+use Rattle.std.proofs.Common.{◌≡◌, ℕ, suc, ◌≤◌, Bool, true, false, List, Result, Ok, Err, refl, arith}
 use Rattle.std.specs.Prelude.{nat_le, length, if◌then◌else◌}
+use Rattle.std.proofs.lemmas.Bool.Decides.{nat_tests}
 use Rattle.kid_sexp.specs.Brackets.{Fault}
 use Rattle.kid_sexp.specs.Plain.{Plains, none, more}
 use Rattle.kid_sexp.specs.Reading.{reading}
@@ -20,6 +21,17 @@ staged_if false k r f y p = cc
 
 pub staged : {A B : Type 0} (k : ℕ) (r : Judged A) (f : A → Read B) (y : B) → (at k r >>= f) ≡ Ok y → (x : A) × (r ≡ Ok x) × (f x ≡ Ok y)
 staged k r f y p = staged_if (nat_le k 1024) k r f y p
+
+within_by : {A B : Type 0} (b : Bool) (k : ℕ) (r : Judged A) (f : A → Read B) (y : B) → ((if b then numbered k r else refused k code.Limit) >>= f) ≡ Ok y → b ≡ true
+within_by true k r f y e = refl
+within_by false k r f y e = cc
+
+pub at_most : (n limit : ℕ) → nat_le n limit ≡ true → n ≤ limit
+at_most n limit e = grind (arith, nat_tests)
+
+-- the number of a form that is not refused
+pub within : {A B : Type 0} (k : ℕ) (r : Judged A) (f : A → Read B) (y : B) → (at k r >>= f) ≡ Ok y → k ≤ 1024
+within k r f y e = at_most k 1024 (within_by (nat_le k 1024) k r f y e)
 
 abbrev refused_if : Bool → ℕ → Read PlainTheory
 refused_if b k = if b then refused k code.Form else refused k code.Limit

@@ -1,5 +1,5 @@
 -- What is read is a theory.
-use Rattle.std.proofs.Common.{◌≡◌, ◌≤◌, ℕ, suc, Bool, true, false, if◌then◌else◌, List, [], ◌∷◌, ◌++◌, length, Ok, refl, ◌∙◌, subst, arith}
+use Rattle.std.proofs.Common.{◌≡◌, ◌≤◌, ℕ, suc, Bool, true, false, if◌then◌else◌, List, [], ◌∷◌, ◌++◌, length, Option, Ok, refl, ◌∙◌, subst, arith}
 use Rattle.std.specs.Prelude.{◌&&◌, codes}
 use Rattle.std.specs.List.{list_all}
 use Rattle.std.proofs.lemmas.List.Folds.{list_all-append}
@@ -9,6 +9,7 @@ use Rattle.kid_value.specs.SortLimits.{is_allowed}
 use Rattle.kid_value.proofs.SortLemmas.{and_parts, and_both}
 use Rattle.kid_term.specs.Fitting.{AreSound}
 use Rattle.kid_term.specs.Names.{Names, PlainDef}
+use Rattle.kid_term.specs.PlainSpec.{is_wanted}
 use Rattle.kid_term.specs.PlainTerm.{PlainTerm}
 use Rattle.kid_term.specs.Sorting.{sort_of}
 use Rattle.kid_sorting.specs.Declaring.{are_allowed, is_sorted_definition}
@@ -19,12 +20,14 @@ use Rattle.kid_kernel.specs.PlainLaw.{PlainLaw}
 use Rattle.kid_kernel.specs.PlainTheory.{PlainTheory}
 use Rattle.kid_theory.specs.Forms.{begins, title_form, definition_form, input_form, output_form, condition_form, is_sorted_law, axiom_form}
 use Rattle.kid_theory.specs.IsTheory.{is_spelled_axiom, IsTheory}
-use Rattle.kid_theory.specs.Reading.{◌>>=◌, at, Front, with_axiom, theory_with, front_of, at_end, after_output, after_condition, after_inputs, after_definitions, theory_from}
+use Rattle.kid_theory.specs.Judged.{Judged}
+use Rattle.kid_theory.specs.Reading.{Read, ◌>>=◌, at, Front, with_axiom, theory_with, front_of, after_relation, after_output, after_condition, after_inputs, after_definitions, theory_from}
 use Rattle.kid_theory.specs.Taken.{Taken}
 use Rattle.kid_theory.specs.declared.fault.TheoryCode.TheVariants as code
 use Rattle.kid_theory.proofs.AxiomTold.{axiom_form_told}
+use Rattle.kid_theory.proofs.FirstTold.{wanting, wanted_told}
 use Rattle.kid_theory.proofs.FormTold.{NameTold, condition_told, output_told, input_told, definition_form_told}
-use Rattle.kid_theory.proofs.Stages.{not_refused, staged, ended}
+use Rattle.kid_theory.proofs.Stages.{not_refused, staged, within}
 use Rattle.kid_theory.proofs.TakenLemmas.{Among, among_more, among_with, free_apart, few_more}
 
 -- definitions and inputs that were read, and the names that are declared
@@ -103,9 +106,9 @@ front_standing defs inputs taken t c known p =
     let q = condition_told (codes "require") defs inputs t c p in
     record { known = known; condition = q.0; spelled = q.1; axioms_sorted = refl; axioms_spelled = refl }
 
-theory_told : (f : Front) (output : List ℕ × PlainSort) (t : Plain) (relation : PlainTerm) → Standing f → NameTold (f.taken ++ f.variables) output
-    → condition_form (codes "ensure") f.definitions (f.inputs ++ output ∷ []) t ≡ Ok relation → IsTheory (theory_with f output relation)
-theory_told f output t relation s named p =
+theory_told : (f : Front) (output : List ℕ × PlainSort) (t : Plain) (relation : PlainTerm) (first : Option ℕ) → Standing f → NameTold (f.taken ++ f.variables) output
+    → condition_form (codes "ensure") f.definitions (f.inputs ++ output ∷ []) t ≡ Ok relation → is_wanted first ≡ true → IsTheory (wanting (theory_with f output relation) first)
+theory_told f output t relation first s named p wanted =
     let q = condition_told (codes "ensure") f.definitions (f.inputs ++ output ∷ []) t relation p in
     let one = and_both (list_all is_spelled_definition f.definitions) (list_all is_spelled_name f.inputs) s.known.spelled s.known.inputs_spelled in
     let two = and_both (list_all is_spelled_definition f.definitions && list_all is_spelled_name f.inputs) (is_spelled_term f.condition) one s.spelled in
@@ -122,14 +125,18 @@ theory_told f output t relation s named p =
       spelled = and_both (list_all is_spelled_definition f.definitions && list_all is_spelled_name f.inputs && is_spelled_term f.condition && is_spelled_name output) (is_spelled_term relation) three q.1;
       axioms_sorted = s.axioms_sorted;
       axioms_spelled = s.axioms_spelled;
+      wanted = wanted;
     }
 
 output_read : (k : ℕ) (f : Front) (output : List ℕ × PlainSort) (ts : Plains) (t : PlainTheory) → Standing f → NameTold (f.taken ++ f.variables) output
     → after_output k f output ts ≡ Ok t → IsTheory t
 output_read k f output none t s named e = absurd (not_refused (suc k) code.Form t e)
 output_read k f output (more u us) t s named e =
-    let a = staged (suc k) (condition_form (codes "ensure") f.definitions (f.inputs ++ output ∷ []) u) (λ relation. at_end (suc k) (theory_with f output relation) us) t e in
-    subst IsTheory (ended (suc k) (theory_with f output a.0) t us a.2) (theory_told f output u a.0 s named a.1)
+    let form : Judged PlainTerm = condition_form (codes "ensure") f.definitions (f.inputs ++ output ∷ []) u in
+    let stage : PlainTerm → Read PlainTheory = λ relation. after_relation (suc k) (theory_with f output relation) us in
+    let a = staged (suc k) form stage t e in
+    let last = wanted_told (suc k) f output a.0 t us (within (suc k) form stage t e) a.2 in
+    subst IsTheory last.whole (theory_told f output u a.0 last.first s named a.1 last.wanted)
 
 -- ---- the forms after the condition
 

@@ -5,7 +5,7 @@ use Rattle.kid_sexp.specs.Plain.{Plains, forest_len}
 use Rattle.kid_sexp.specs.Spells.{Spells}
 use Rattle.kid_value.specs.SortLimits.{is_allowed}
 use Rattle.kid_term.specs.Names.{PlainDef}
-use Rattle.kid_term.specs.PlainSpec.{relation_scope}
+use Rattle.kid_term.specs.PlainSpec.{is_wanted, relation_scope}
 use Rattle.kid_term.specs.PlainTerm.{PlainTerm}
 use Rattle.kid_term.specs.Sorting.{sort_of}
 use Rattle.kid_term.specs.WordTerms.{holds_word_operator}
@@ -87,6 +87,7 @@ pub record IsFormed (name : List ℕ) (t : PlainTheory) : Type 0 where
   pub axioms_named : are_named_before (names_before_axioms t) [] t.axioms t.spec.output ≡ true
   pub sort_allowed : is_allowed t.spec.sort ≡ true
   pub relation : is_truth (sort_of t.signature.definitions (relation_scope t.spec) t.spec.relation) ≡ true
+  pub wanted : is_wanted t.spec.first ≡ true
 
 -- a file that spells a theory which keeps the rules is read as that theory
 abbrev pub FormedTheoriesAreRead : Type 0

@@ -1,8 +1,9 @@
 -- The forms of a theory: what each holds by its shape, and the rules that it meets, in the order in which they are tested.
-use Rattle.std.specs.Prelude.{ℕ, nat_lt, Bool, true, false, not, ◌&&◌, List, [], ◌∷◌, ◌++◌, length, is_some, Ok, codes}
+use Rattle.std.specs.Prelude.{ℕ, nat_lt, ℤ, pos, int_le, Bool, true, false, not, ◌&&◌, List, [], ◌∷◌, ◌++◌, length, is_some, Ok, codes}
 use Rattle.std.specs.List.{list_all}
 use Rattle.kid_sexp.specs.Plain.{Plain, Plains}
 use Rattle.kid_value.specs.PlainSort.{PlainSort}
+use Rattle.kid_value.specs.Rows.Kinds.{natural}
 use Rattle.kid_value.specs.SortOrder.{join}
 use Rattle.kid_value.specs.SortLimits.{is_allowed}
 use Rattle.kid_term.specs.PlainTerm.{PlainTerm, var, number, truth, app, bind, PlainTerms, no_term, term}
@@ -16,7 +17,7 @@ use Rattle.kid_kernel.specs.PlainLaw.{PlainConclusion, equal, holds, PlainLaw}
 use Rattle.kid_theory.specs.Judged.{Judged, ◌>>=◌, shaped, tested}
 use Rattle.kid_theory.specs.Taken.{Taken, is_free, are_free}
 use Rattle.kid_theory.specs.Ahead.{calls_ahead}
-use Rattle.kid_theory.specs.Shapes.{lone_word, lone_term, declared_form, definition_shape, axiom_shape}
+use Rattle.kid_theory.specs.Shapes.{lone_word, lone_number, lone_term, declared_form, definition_shape, axiom_shape}
 use Rattle.kid_theory.specs.declared.fault.TheoryCode.TheVariants as code
 
 -- ---- (theory NAME)
@@ -52,6 +53,14 @@ output_form taken t = shaped (declared_form (codes "output") t) >>= judged_name 
 abbrev pub condition_form : List ℕ → List PlainDef → Names → Plain → Judged PlainTerm
 condition_form word defs names t =
     shaped (lone_term word t) >>= λ c. tested (is_truth (sort_of defs names c)) code.Sort (Ok c)
+
+-- ---- (first NUMBER), from 1 to 1,000,000
+
+abbrev pub counted : ℤ → Judged ℕ
+counted n = tested (int_le (pos 1) n && int_le n (pos 1000000)) code.Form (Ok (natural n))
+
+abbrev pub first_form : Plain → Judged ℕ
+first_form t = shaped (lone_number (codes "first") t) >>= counted
 
 -- ---- (axiom NAME ((NAME SORT) ..) (given TERM ..) CONCLUSION)
 

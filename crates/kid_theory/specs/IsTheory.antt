@@ -4,7 +4,7 @@ use Rattle.std.specs.List.{list_all}
 use Rattle.kid_value.specs.PlainSort.{bools}
 use Rattle.kid_value.specs.SortLimits.{is_allowed}
 use Rattle.kid_term.specs.Names.{is_named}
-use Rattle.kid_term.specs.PlainSpec.{relation_scope}
+use Rattle.kid_term.specs.PlainSpec.{is_wanted, relation_scope}
 use Rattle.kid_term.specs.PlainTerm.{term_row}
 use Rattle.kid_term.specs.Sorting.{sort_of}
 use Rattle.kid_term.specs.Fitting.{AreAllowed, AreSound}
@@ -30,7 +30,7 @@ is_spelled_conclusion (holds c) = is_spelled_term c
 abbrev pub is_spelled_axiom : PlainLaw → Bool
 is_spelled_axiom a = is_name a.name && list_all is_spelled_name a.variables && are_spelled_terms (term_row a.conditions) && is_spelled_conclusion a.conclusion
 
--- sound definitions, allowed sorts, an output that is no input, conditions that are truth values over the names that they see, and sorted axioms
+-- sound definitions, allowed sorts, an output that is no input, conditions that are truth values over the names that they see, sorted axioms, and all answers wanted or from 1 to 1,000,000
 pub record IsTheory (t : PlainTheory) : Type 0 where
   pub sound : AreSound t.signature.definitions
   pub same_inputs : t.signature.inputs ≡ t.spec.inputs
@@ -43,6 +43,7 @@ pub record IsTheory (t : PlainTheory) : Type 0 where
   pub spelled : is_spelled_theory t ≡ true
   pub axioms_sorted : list_all (is_sorted_law t.signature.definitions t.spec.inputs) t.axioms ≡ true
   pub axioms_spelled : list_all is_spelled_axiom t.axioms ≡ true
+  pub wanted : is_wanted t.spec.first ≡ true
 
 -- each theory that is read is one
 abbrev pub ReadTheories : Type 0

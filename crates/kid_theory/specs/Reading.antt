@@ -1,5 +1,5 @@
 -- The theory that a file spells, or the first form that is refused.
-use Rattle.std.specs.Prelude.{ℕ, suc, nat_le, List, [], ◌∷◌, ◌++◌, Result, Ok, Err, if◌then◌else◌, length, codes, None}
+use Rattle.std.specs.Prelude.{ℕ, suc, nat_le, List, [], ◌∷◌, ◌++◌, Some, None, Result, Ok, Err, if◌then◌else◌, length, codes}
 use Rattle.kid_sexp.specs.Plain.{Plains, none, more}
 use Rattle.kid_sexp.specs.Brackets.{Fault}
 use Rattle.kid_sexp.specs.Reading.{reading}
@@ -10,7 +10,7 @@ use Rattle.kid_kernel.specs.PlainLaw.{PlainLaw}
 use Rattle.kid_kernel.specs.PlainTheory.{PlainTheory}
 use Rattle.kid_theory.specs.Judged.{Judged}
 use Rattle.kid_theory.specs.Taken.{Taken, words_of}
-use Rattle.kid_theory.specs.Forms.{begins, title_form, definition_form, input_form, output_form, condition_form, axiom_form}
+use Rattle.kid_theory.specs.Forms.{begins, title_form, definition_form, input_form, output_form, condition_form, first_form, axiom_form}
 use Rattle.kid_theory.specs.declared.fault.TheoryCode.{TheoryCode}
 use Rattle.kid_theory.specs.declared.fault.TheoryCode.TheVariants as code
 use Rattle.kid_theory.specs.declared.fault.TheoryFault.{TheoryFault}
@@ -57,11 +57,19 @@ abbrev pub at_end : ℕ → PlainTheory → Plains → Read PlainTheory
 at_end k t none = Ok t
 at_end k t (more u us) = at (suc k) (Err code.Form)
 
+-- the theory with so many answers wanted
+abbrev pub with_first : PlainTheory → ℕ → PlainTheory
+with_first t n = record t { spec = record t.spec { first = Some n } }
+
+abbrev pub after_relation : ℕ → PlainTheory → Plains → Read PlainTheory
+after_relation k t none = Ok t
+after_relation k t (more u us) = at (suc k) (first_form u) >>= λ n. at_end (suc k) (with_first t n) us
+
 abbrev pub after_output : ℕ → Front → List ℕ × PlainSort → Plains → Read PlainTheory
 after_output k f output none = refused (suc k) code.Form
 after_output k f output (more t ts) =
     at (suc k) (condition_form (codes "ensure") f.definitions (f.inputs ++ output ∷ []) t)
-    >>= λ relation. at_end (suc k) (theory_with f output relation) ts
+    >>= λ relation. after_relation (suc k) (theory_with f output relation) ts
 
 abbrev pub after_condition : ℕ → Front → Plains → Read PlainTheory
 after_condition k f none = refused (suc k) code.Form

@@ -1,5 +1,5 @@
 -- The parts of a theory's forms by their shape. A word that is to be declared may be a name or not.
-use Rattle.std.specs.Prelude.{ℕ, List, [], ◌∷◌, Option, Some, None, option_map, if◌then◌else◌, codes}
+use Rattle.std.specs.Prelude.{ℕ, ℤ, List, [], ◌∷◌, Option, Some, None, option_map, if◌then◌else◌, codes}
 use Rattle.kid_sexp.specs.Plain.{Plain, Plains, atom, list, none, more}
 use Rattle.kid_value.specs.PlainSort.{PlainSort}
 use Rattle.kid_value.specs.SortOrder.{both}
@@ -8,7 +8,7 @@ use Rattle.kid_term.specs.Names.{Names, PlainDef}
 use Rattle.kid_term.specs.WordTerms.{holds_word_operator}
 use Rattle.kid_codec.specs.Reading.{◌>>=◌}
 use Rattle.kid_codec.specs.Shape.{form, single, couple, quadruple}
-use Rattle.kid_codec.specs.SortSpelling.{spelled_sort}
+use Rattle.kid_codec.specs.SortSpelling.{spelled_number, spelled_sort}
 use Rattle.kid_codec.specs.TermSpelling.{spelled_term}
 use Rattle.kid_kernel.specs.PlainLaw.{PlainConclusion, equal, holds, PlainLaw}
 
@@ -54,6 +54,9 @@ lone word t = form word t >>= single
 
 abbrev pub lone_word : List ℕ → Plain → Option (List ℕ)
 lone_word word t = lone word t >>= word_of
+
+abbrev pub lone_number : List ℕ → Plain → Option ℤ
+lone_number word t = lone word t >>= spelled_number
 
 abbrev pub lone_term : List ℕ → Plain → Option PlainTerm
 lone_term word t = lone word t >>= theory_term

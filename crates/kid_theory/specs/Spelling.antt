@@ -1,11 +1,11 @@
 -- A theory as a forest.
-use Rattle.std.specs.Prelude.{◌≡◌, ℕ, true, List, [], ◌∷◌, Ok, codes}
-use Rattle.kid_sexp.specs.Plain.{Plain, Plains, atom, list, more, one}
+use Rattle.std.specs.Prelude.{◌≡◌, ℕ, pos, true, List, [], ◌∷◌, Option, Some, None, Ok, codes}
+use Rattle.kid_sexp.specs.Plain.{Plain, Plains, atom, list, none, more, one}
 use Rattle.kid_sexp.specs.Spells.{Spells}
 use Rattle.kid_term.specs.PlainTerm.{term_row}
 use Rattle.kid_codec.specs.DeclaredSpelling.{named_spelling, names_spelling, definitions_before, inputs_before}
 use Rattle.kid_codec.specs.Name.{is_name}
-use Rattle.kid_codec.specs.SortSpelling.{headed}
+use Rattle.kid_codec.specs.SortSpelling.{headed, number_tree}
 use Rattle.kid_codec.specs.TermSpelling.{term_spelling, term_spellings}
 use Rattle.kid_kernel.specs.PlainLaw.{PlainConclusion, equal, holds, PlainLaw}
 use Rattle.kid_kernel.specs.PlainTheory.{PlainTheory}
@@ -27,10 +27,18 @@ abbrev pub axioms_before : List PlainLaw → Plains → Plains
 axioms_before [] rest = rest
 axioms_before (a ∷ others) rest = more (axiom_spelling a) (axioms_before others rest)
 
+abbrev pub first_spelling : ℕ → Plain
+first_spelling n = headed (codes "first") (one (number_tree (pos n)))
+
+-- where not all answers are wanted, the form that says how many, and then the forms after it
+abbrev pub first_before : Option ℕ → Plains → Plains
+first_before None rest = rest
+first_before (Some n) rest = more (first_spelling n) rest
+
 abbrev pub last_forms : PlainTheory → Plains
 last_forms t =
     more (headed (codes "output") (named_spelling (t.spec.output, t.spec.sort)))
-    (one (headed (codes "ensure") (one (term_spelling t.spec.relation))))
+    (more (headed (codes "ensure") (one (term_spelling t.spec.relation))) (first_before t.spec.first none))
 
 -- the forms after the inputs
 abbrev pub later_forms : PlainTheory → Plains

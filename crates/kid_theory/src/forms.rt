@@ -7,12 +7,12 @@ ghost use Rattle.kid_term.specs.CallDepth.{depths_of};
 ghost use Rattle.kid_term.specs.DefView.{plain_def};
 ghost use Rattle.kid_term.specs.TermView.{plain_term};
 ghost use Rattle.kid_theory.specs.Answers.{Judges};
-ghost use Rattle.kid_theory.specs.Forms.{begins, title_form, judged_definition, definition_form, judged_name, input_form, output_form, condition_form};
+ghost use Rattle.kid_theory.specs.Forms.{begins, title_form, judged_definition, definition_form, judged_name, input_form, output_form, condition_form, first_form};
 
 use crate::ahead::{Place, calls_ahead};
 use crate::fault::TheoryCode;
 use crate::names::{are_free, is_free};
-use crate::shape::{declared_form, definition_shape, lone_term, lone_word};
+use crate::shape::{declared_form, definition_shape, lone_number, lone_term, lone_word};
 use kid_codec::is_name;
 use kid_codec::shape::form;
 use kid_sexp::Tree;
@@ -23,6 +23,9 @@ use std::alloc::Global;
 
 /// A theory has no more inputs.
 const MAX_INPUTS: usize = 16;
+
+/// A theory asks for no more answers.
+const MAX_COUNT: i64 = 1_000_000;
 
 /// Whether the form begins with the word.
 pub fn begins(word: &[u8], tree: &Tree) -> bool
@@ -145,4 +148,18 @@ pub fn condition_form(
         return Err(TheoryCode::Sort);
     }
     Ok(term)
+}
+
+/// `(first NUMBER)`, with a number from 1 to 1,000,000.
+pub fn first_form(tree: &Tree) -> Result<u32, TheoryCode>
+    ensures { Judges (λ n. n) result (first_form (plain tree.now)) }
+{
+    let Some(number) = lone_number(b"first", tree) else {
+        return Err(TheoryCode::Form);
+    };
+    if 1 <= number && number <= MAX_COUNT {
+        Ok(number as u32)
+    } else {
+        Err(TheoryCode::Form)
+    }
 }

@@ -12,12 +12,12 @@ ghost use Rattle.kid_theory.specs.Answers.{Judges, Reads, fault_at, placed, loca
 ghost use Rattle.kid_theory.specs.Forms.{condition_form as condition_form_of, output_form as output_form_of, axiom_form as axiom_form_of, definition_form as definition_form_of};
 ghost use Rattle.kid_theory.specs.FrontView.{plain_front};
 ghost use Rattle.kid_theory.specs.IsTheory.{IsTheory};
-ghost use Rattle.kid_theory.specs.Reading.{theory_with, with_axiom, front_of, at_end, after_output, after_condition, after_inputs, after_definitions, theory_from, theory_reading};
+ghost use Rattle.kid_theory.specs.Reading.{theory_with, with_axiom, front_of, at_end, after_relation, after_output, after_condition, after_inputs, after_definitions, theory_from, theory_reading};
 ghost use Rattle.kid_theory.specs.Spelling.{IsSpelledBy};
 
 use crate::fault::{TheoryCode, TheoryFault};
 use crate::forms::{
-    Known, begins, condition_form, definition_form, input_form, output_form, title_form,
+    Known, begins, condition_form, definition_form, first_form, input_form, output_form, title_form,
 };
 use crate::law_form::axiom_form;
 use crate::names::{add_words, declare, joined as joined_texts};
@@ -127,6 +127,23 @@ fn at_end(before: u32, theory: Theory, trees: &[Tree]) -> Result<Theory, TheoryF
     }
 }
 
+fn after_relation(
+    before: u32,
+    mut theory: Theory,
+    trees: &[Tree],
+) -> Result<Theory, TheoryFault>
+    requires { before + length trees.now + 1 < 2 ^ 32 }
+    ensures { Reads plain_theory result (after_relation before (plain_theory theory) (plains trees.now)) }
+{
+    let number = before + 1;
+    let Some((tree, rest)) = trees.split_first() else {
+        return Ok(theory);
+    };
+    let count = at(number, first_form(tree))?;
+    theory.spec.first = Some(count);
+    at_end(number, theory, rest)
+}
+
 /// The names that the relation sees, and then the relation.
 fn relation_form(
     alloc: Global,
@@ -158,7 +175,7 @@ fn after_output(
     };
     let relation = at(number, relation_form(alloc, &front, &output, &sort, tree))?;
     let theory = theory_with(alloc, front, output, sort, relation)?;
-    at_end(number, theory, rest)
+    after_relation(number, theory, rest)
 }
 
 /// The output's name and sort, which no name before has and no variable of an axiom.
@@ -396,6 +413,7 @@ fn read_file(alloc: Global, bytes: &[u8]) -> Result<Theory, TheoryFault>
 ///   binder stands in any of these terms
 /// - `(output NAME SORT)`
 /// - `(ensure TERM)`, a truth value over the inputs and the output
+/// - `(first NUMBER)`, from 1 to 1,000,000, or none of it where all answers are wanted
 ///
 /// Definitions, inputs, axioms and the output have names that differ from one another and from the variables of the axioms before
 /// them. The variables of an axiom differ from one another, from its name and from all names before it. The parameters of a

@@ -6,11 +6,12 @@ ghost use Rattle.kid_value.specs.NameView.{plain_name};
 ghost use Rattle.kid_term.specs.DefView.{plain_def};
 ghost use Rattle.kid_term.specs.TermView.{plain_term};
 ghost use Rattle.kid_codec.specs.Reading.{Finds};
+ghost use Rattle.kid_codec.specs.SortSpelling.{spelled_number};
 ghost use Rattle.kid_kernel.specs.LawView.{plain_conclusion, plain_axiom};
-ghost use Rattle.kid_theory.specs.Shapes.{word_of, theory_term, theory_terms, declared, declared_pair, declared_list, declared_each, declared_names, lone, lone_word, lone_term, declared_form, definition_of, definition_shape, given_terms, equal_sides, equal_parts, holds_shape, conclusion_shape, axiom_of, axiom_shape};
+ghost use Rattle.kid_theory.specs.Shapes.{word_of, theory_term, theory_terms, declared, declared_pair, declared_list, declared_each, declared_names, lone, lone_word, lone_number, lone_term, declared_form, definition_of, definition_shape, given_terms, equal_sides, equal_parts, holds_shape, conclusion_shape, axiom_of, axiom_shape};
 
 use kid_codec::shape::{couple, form, quadruple, single};
-use kid_codec::{CodecFault, spelled_sort, spelled_term};
+use kid_codec::{CodecFault, number_of, spelled_sort, spelled_term};
 use kid_kernel::{Axiom, Conclusion};
 use kid_sexp::Tree;
 use kid_term::{Def, Term, Terms};
@@ -98,6 +99,25 @@ pub fn lone_word(alloc: Global, word: &[u8], tree: &Tree) -> Result<Text, CodecF
     match lone(word, tree) {
         Some(part) => word_of(alloc, part),
         None => Err(CodecFault::Form),
+    }
+}
+
+fn spelled_number(tree: &Tree) -> Option<i64>
+    ensures { result ≡ spelled_number (plain tree.now) }
+{
+    match tree {
+        Tree::Atom(word) => number_of(word.as_slice()),
+        Tree::List(_) => None,
+    }
+}
+
+/// The number that stands alone behind the form's word.
+pub fn lone_number(word: &[u8], tree: &Tree) -> Option<i64>
+    ensures { result ≡ lone_number word.now (plain tree.now) }
+{
+    match lone(word, tree) {
+        Some(part) => spelled_number(part),
+        None => None,
     }
 }
 

@@ -6,6 +6,8 @@ mod axioms;
 #[cfg(test)]
 mod faults;
 #[cfg(test)]
+mod first;
+#[cfg(test)]
 mod forms;
 #[cfg(test)]
 mod limits;

@@ -52,6 +52,25 @@ fn refuses_the_1025th_form(rt: HostRuntime) {
     assert!(rt; is_refused(rt.alloc(), file, 1025, TheoryCode::Limit));
 }
 
+/// A theory of so many definitions, which ends with another form.
+fn with_definitions_and(alloc: Global, count: u32, form: &str) -> Result<Vec<u8>, Memory> {
+    let mut file = with_definitions(alloc, count, 4)?;
+    file.extend_from_slice(form.as_bytes())?;
+    Ok(file)
+}
+
+#[test]
+fn takes_a_count_as_the_1024th_form(rt: HostRuntime) {
+    let file = with_definitions_and(rt.alloc(), 1018, "(first 1)");
+    assert!(rt; is_taken(rt.alloc(), file));
+}
+
+#[test]
+fn refuses_a_count_as_the_1025th_form(rt: HostRuntime) {
+    let file = with_definitions_and(rt.alloc(), 1019, "(first 0)");
+    assert!(rt; is_refused(rt.alloc(), file, 1025, TheoryCode::Limit));
+}
+
 #[test]
 fn misses_a_form_after_the_1024th(rt: HostRuntime) {
     let file = with_definitions(rt.alloc(), 1020, 3);

@@ -11,4 +11,4 @@ returns c =
     let e = relation-next c.args.before (c.args.before + 1) (plain_front c.args.front) (c.args.output, plain_sort c.args.sort) c.args.trees.now c.in-Some.rest.now c.in-Some.tree.now
     c.relation_form.result c.in_ok-relation.relation (plain_theory c.in_ok-theory.theory)
     (omega arith) c.in-Some.ensures.cases.0 c.relation_form.ensures (sym c.at.ensures ∙ c.in_ok-relation.was) c.in_ok-theory.ensures in
-    subst (λ o. Reads plain_theory c.at_end.result o) (sym e) c.at_end.ensures
+    subst (λ o. Reads plain_theory c.after_relation.result o) (sym e) c.after_relation.ensures
