@@ -18,7 +18,7 @@ use Rattle.kid_codec.specs.TermSpelling.{begin_with_numbers, is_spelled_head, is
 use Rattle.kid_codec.specs.Takes.{takes, numbers_first}
 use Rattle.kid_codec.proofs.Found.{same_some, if_some}
 use Rattle.kid_kernel.specs.PlainTheory.{PlainTheory}
-use Rattle.kid_theory.specs.IsTheory.{is_spelled_theory}
+use Rattle.kid_theory.specs.IsTheory.{IsTheory}
 use Rattle.kid_prog.specs.PlainProgram.{PlainProgram}
 use Rattle.kid_prog.specs.Spelling.{is_spelled_stmt, is_spelled_program}
 use Rattle.kid_prog.proofs.ProgramParts.{spelled_whole}
@@ -165,8 +165,8 @@ are_ends lo hi h =
 
 -- ---- the program
 
-pub emitted_spelled : (t : PlainTheory) (p : PlainProgram) → is_spelled_theory t ≡ true → program_for t ≡ Some p → is_spelled_program p ≡ true
-emitted_spelled t p h e =
+pub emitted_spelled : (t : PlainTheory) (p : PlainProgram) → IsTheory t → program_for t ≡ Some p → is_spelled_program p ≡ true
+emitted_spelled t p is e =
     let m = program_emits t p e in
     let lo : ℤ = m.lo in
     let hi : ℤ = m.hi in
@@ -174,7 +174,7 @@ emitted_spelled t p h e =
     let defs = list_all is_spelled_definition t.signature.definitions in
     let inputs = list_all is_spelled_name t.spec.inputs in
     let output = is_spelled_name (t.spec.output, t.spec.sort) in
-    let a = and_parts (defs && inputs && is_spelled_term t.spec.condition && output) (is_spelled_term t.spec.relation) h in
+    let a = and_parts (defs && inputs && is_spelled_term t.spec.condition && output) (is_spelled_term t.spec.relation) is.spelled in
     let b = and_parts (defs && inputs && is_spelled_term t.spec.condition) output a.0 in
     let c = and_parts (defs && inputs) (is_spelled_term t.spec.condition) b.0 in
     let e = and_parts defs inputs c.0 in
@@ -186,6 +186,7 @@ emitted_spelled t p h e =
       inputs = e.1;
       condition = c.1;
       output = b.1;
+      wanted = is.wanted;
       main = alone _ (alone _ (and_both (in_limits lo) (in_limits hi && true) ends.low (alone (in_limits hi) ends.high)));
       parameters =
           and_both (is_spelled_name (codes "low", ints lo (hi +ℤ pos 1))) _ (and_both (is_name (codes "low")) (is_spelled_sort (ints lo (hi +ℤ pos 1))) low_name ends.lows)
