@@ -1,5 +1,6 @@
 pub mod AnswerLemmas
 pub mod BinderSound
+pub mod ClosedLemmas
 pub mod Counting
 pub mod Digits
 pub mod EqualityLemmas
@@ -11,9 +12,11 @@ pub mod LogicSound
 pub mod MapSound
 pub mod Members
 pub mod NameLemmas
+pub mod NameRanks
 pub mod NumberSound
 pub mod PairSound
 pub mod Products
+pub mod QuoteLemmas
 pub mod Quotients
 pub mod Ranks
 pub mod RenameLemmas
@@ -23,9 +26,9 @@ pub mod SeqRanks
 pub mod SeqSound
 pub mod SetRanks
 pub mod SetSound
+pub mod SimultaneousLemmas
 pub mod SizeLemmas
 pub mod SortedValue
-pub mod SubsortLemmas
 pub mod Sums
 pub mod WordBits
 pub mod WordSound

@@ -1,6 +1,8 @@
 pub mod Answer
+pub mod BoundView
 pub mod CallDepth
 pub mod Chain
+pub mod Closed
 pub mod Contexts
 pub mod Cost
 pub mod DefCode
@@ -27,9 +29,11 @@ pub mod SeqRows
 pub mod SeqSorts
 pub mod SetRows
 pub mod SetSorts
+pub mod Simultaneous
 pub mod Small
 pub mod Sorted
 pub mod Sorting
+pub mod SubstView
 pub mod Substitution
 pub mod SumSort
 pub mod TermCode

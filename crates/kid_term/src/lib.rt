@@ -9,6 +9,7 @@ use std::alloc::Global;
 use std::marker::Model;
 
 pub mod call_depth;
+mod closed;
 mod copy;
 pub mod definition;
 mod equality;
@@ -17,11 +18,14 @@ pub mod names;
 pub mod operator;
 pub mod path;
 mod place;
+mod quotation;
 mod refine_form;
 pub mod rename;
 mod size;
 mod spec;
+mod subst;
 pub mod substitute;
+mod substitute_all;
 mod why;
 mod word;
 
@@ -30,17 +34,20 @@ pub use definition::{Def, Defs};
 pub use equality::same;
 pub use operator::{Binder, LogicOp, MapOp, NumberOp, Op, PairOp, SeqOp, SetOp, WordOp};
 pub use path::Path;
+pub use quotation::quote;
 pub use refine_form::RefineForm;
 pub use rename::RenameFault;
 pub use spec::Spec;
+pub use subst::Subst;
 pub use substitute::SubstFault;
 pub use why::Why;
 
-/// A number or a truth value.
-#[derive(Clone, Copy, Debug, PartialEq, Eq)]
+/// A number, a truth value, or the name that is a tag.
+#[derive(Debug, Drop)]
 pub enum Literal {
     Int(i64),
     Bool(bool),
+    Tag(Text),
 }
 
 /// What is applied: an operator, a definition by its name, or a cast to a sort.

@@ -6,7 +6,8 @@ ghost use Rattle.kid_term.specs.Names.{same_name};
 ghost use Rattle.kid_term.specs.Eval.{Env, Calls, eval};
 ghost use Rattle.kid_term.specs.Substitution as spec;
 
-use crate::{BoxedTerm, Term, Terms};
+use crate::Term;
+use crate::substitute_all::{Scope, substituted};
 use kid_value::{Memory, Text};
 use std::alloc::Global;
 use thiserror::Error;
@@ -58,35 +59,10 @@ impl Term {
     }
 
     /// The term with `new` in each free place of the name.
-    #[cycle(replaced)]
     pub(crate) fn replaced(&self, alloc: Global, x: &Text, new: &Term) -> Result<Term, Memory>
         ensures { IfOk result (λ t. plain_term t ≡ spec.replaced x.now (plain_term new.now) (plain_term self.now)) }
     {
-        match self {
-            Term::Var(y) => if is_same(x, y) {
-                new.copy(alloc)
-            } else {
-                Ok(Term::Var(y.copy(alloc)?))
-            },
-            Term::Lit(l) => Ok(Term::Lit(*l)),
-            Term::App(head, args) => {
-                let head = head.copy(alloc)?;
-                let items = all_replaced(alloc, &args.items, x, new)?;
-                Ok(Term::App(head, Terms { items }))
-            }
-            Term::Bind(binder, y, set, body) => {
-                let name = y.copy(alloc)?;
-                let set = set.inner.replaced(alloc, x, new)?;
-                let body = if is_same(x, y) {
-                    body.inner.copy(alloc)?
-                } else {
-                    body.inner.replaced(alloc, x, new)?
-                };
-                let set = BoxedTerm::new(alloc, set)?;
-                let body = BoxedTerm::new(alloc, body)?;
-                Ok(Term::Bind(*binder, name, set, body))
-            }
-        }
+        substituted(alloc, &Scope::One(x, new), self)
     }
 
     /// The term with `new` in each free place of the name.
@@ -134,15 +110,4 @@ fn some_capture(terms: &[Term], x: &Text, new: &Term) -> bool
         }
     }
     false
-}
-
-#[cycle(replaced)]
-fn all_replaced(alloc: Global, terms: &[Term], x: &Text, new: &Term) -> Result<Vec<Term>, Memory>
-    ensures { IfOk result (λ v. term_row (map plain_term v.items) ≡ spec.replaced_in x.now (plain_term new.now) (term_row (map plain_term terms.now))) }
-{
-    let mut made = Vec::new(alloc);
-    for t in terms {
-        made.push(t.replaced(alloc, x, new)?)?;
-    }
-    Ok(made)
 }

@@ -12,7 +12,7 @@ use Rattle.kid_term.specs.PlainSpec.{relation_scope}
 use Rattle.kid_term.specs.Eval.{Env, value_at, cast_value, eval}
 use Rattle.kid_term.specs.Sorting.{sort_of}
 use Rattle.kid_term.specs.Substitution.{replaced, captures}
-use Rattle.kid_term.proofs.EvalLemmas.{eval-substituted}
+use Rattle.kid_term.proofs.SimultaneousLemmas.{eval-substituted}
 use Rattle.kid_term.proofs.SortedValue.{sort_of_ok}
 use Rattle.kid_kernel.specs.PlainTheory.{PlainTheory}
 use Rattle.kid_prog.specs.Events.{Event, called, found, procedure}

@@ -1,7 +1,7 @@
 use Rattle.std.proofs.Common.{sym, ap, ◌∙◌}
 use Rattle.kid_term.specs.TermView.{plain_term}
 use Rattle.kid_term.specs.Eval.{eval}
-use Rattle.kid_term.proofs.EvalLemmas.{eval-substituted}
+use Rattle.kid_term.proofs.SimultaneousLemmas.{eval-substituted}
 use Rattle.kid_term.proofs.Term.substitute.Goals as goal
 
 pub returns-in-Ok-clause-value : goal.returns-in-Ok-clause-value
