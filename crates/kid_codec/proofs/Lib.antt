@@ -1,12 +1,19 @@
 pub mod Each
 pub mod Found
+pub mod JoinedMaps
 pub mod Lengths
+pub mod NameLemmas
 pub mod Numbers
 pub mod Printed
 pub mod Puts
 pub mod ShapeTold
 pub mod SortBack
 pub mod SortTold
+pub mod SpelledAnswers
+pub mod SpelledCanonical
+pub mod SpelledExampleProofs
+pub mod SpelledRead
+pub mod SpelledTold
 pub mod Taken
 pub mod TermBack
 pub mod TermTold
@@ -15,3 +22,4 @@ pub mod ValueTold
 pub mod Words
 pub mod Shapes
 pub mod SortedCasts
+pub mod SortedSpelled
