@@ -6,8 +6,9 @@ use Rattle.std.proofs.lemmas.Bool.Decides.{nat_tests}
 use Rattle.kid_value.specs.PlainValue.{PlainValue}
 use Rattle.kid_value.specs.PlainSort.{PlainSort, bools, sets}
 use Rattle.kid_value.specs.Rows.Parts.{truth_of, members_of}
-use Rattle.kid_value.proofs.SortLemmas.{and_parts}
+use Rattle.kid_value.proofs.SortLemmas.{and_parts, has_sort-subsort}
 use Rattle.kid_codec.specs.ValueSpelling.{is_spelled_value}
+use Rattle.kid_codec.proofs.SortedSpelled.{sorted-spelled}
 use Rattle.kid_term.specs.PlainTerm.{PlainTerm, term_row}
 use Rattle.kid_term.specs.Eval.{Env, Calls, eval, evals, calls_of}
 use Rattle.kid_term.specs.Small.{StaysSmall, all_stay_small, checks_of}
@@ -23,7 +24,6 @@ use Rattle.kid_prog.specs.Events.{found, Procedure, events, search_env}
 use Rattle.kid_run.specs.Frames.{PlainFrame, rest, over, caller, PlainMachine, Move, goes, finds, calls, ends, machine, kept, keeping, overs, below, first, step_at, step, waiting, entered, frames_do, doing}
 use Rattle.kid_run.specs.Scope.{CanRun, CanRunOver, AllOfSort, FramesCanRun, MachineCanRun, AreArguments}
 use Rattle.kid_run.proofs.Scopes.{Fits-end, AreAllowed-end, Fits-inside, AreAllowed-inside, parameters-fit, binds_ok, ranges_ok, is_truth_ok, is_within_ok, call_fits_ok, terms-evaluate}
-use Rattle.kid_run.proofs.SpelledValues.{allowed-spelled}
 
 -- ---- names that are kept
 
@@ -249,7 +249,7 @@ module _ (p : PlainProgram) where
         (λ f. refl),
         (record { names = c.names; allowed = c.allowed; fits = c.fits; obeys = q.1 }, h),
         omega arith,
-        allowed-spelled r.0 (eval defs env t) k.sound.sort_allowed k.sound.of_sort.has,
+        sorted-spelled p.sort (eval defs env t) runs.spelled (has_sort-subsort r.0 p.sort (eval defs env t) r.2 k.sound.of_sort.has),
       )
   first-comes runs env (call ts) ss fs c h =
       let q = and_parts (call_fits (Some p.parameters) (sorts_of p.definitions c.names ts)) (obey (setting_of p) c.names ss) c.obeys in

@@ -3,11 +3,11 @@ use Rattle.std.proofs.Common.{◌≡◌, ℕ, zero, suc, ℤ, Bool, true, false,
 use Rattle.std.specs.Prelude.{pos, negsuc, neg_ℤ, ◌+ℤ◌, ◌-ℤ◌, ◌≤ℤ◌, int_lt, int_le, ◌&&◌, ◌==◌, is_some, codes}
 use Rattle.std.specs.List.{list_all}
 use Rattle.std.proofs.lemmas.Int.{ints as int_rules}
-use Rattle.kid_value.specs.PlainSort.{PlainSort, never, bools, ints, pairs, sets, seqs, maps}
+use Rattle.kid_value.specs.PlainSort.{PlainSort, never, bools, ints, pairs, sets, seqs, maps, enums}
 use Rattle.kid_value.specs.SortLimits.{in_limits}
 use Rattle.kid_value.proofs.SortLemmas.{and_parts, and_both}
 use Rattle.kid_term.specs.Names.{same_name}
-use Rattle.kid_term.specs.PlainTerm.{PlainHead, op, call, cast, PlainTerm, var, number, truth, app, bind, PlainTerms, no_term, term, terms}
+use Rattle.kid_term.specs.PlainTerm.{PlainHead, op, call, cast, PlainTerm, var, number, truth, tag, app, bind, PlainTerms, no_term, term, terms}
 use Rattle.kid_term.specs.Substitution.{replaced, replaced_in}
 use Rattle.kid_term.specs.Written.{number_in}
 use Rattle.kid_codec.specs.Name as name
@@ -18,7 +18,7 @@ use Rattle.kid_codec.specs.TermSpelling.{begin_with_numbers, is_spelled_head, is
 use Rattle.kid_codec.specs.Takes.{takes, numbers_first}
 use Rattle.kid_codec.proofs.Found.{same_some, if_some}
 use Rattle.kid_kernel.specs.PlainTheory.{PlainTheory}
-use Rattle.kid_theory.specs.IsTheory.{is_spelled_theory}
+use Rattle.kid_theory.specs.IsTheory.{IsTheory}
 use Rattle.kid_prog.specs.PlainProgram.{PlainProgram}
 use Rattle.kid_prog.specs.Spelling.{is_spelled_stmt, is_spelled_program}
 use Rattle.kid_prog.proofs.ProgramParts.{spelled_whole}
@@ -48,6 +48,7 @@ program_at_emits t p (pairs a b) of e = cc
 program_at_emits t p (sets a) of e = cc
 program_at_emits t p (seqs a n) of e = cc
 program_at_emits t p (maps a b) of e = cc
+program_at_emits t p (enums ns) of e = cc
 
 pub program_emits : (t : PlainTheory) (p : PlainProgram) → program_for t ≡ Some p → Emits t p
 program_emits t p e = program_at_emits t p t.spec.sort refl e
@@ -90,6 +91,7 @@ mutual
   replaced_spelled x new (var y) h k = cond_spelled (same_name x y) new (var y) h k
   replaced_spelled x new (number n) h k = k
   replaced_spelled x new (truth b) h k = refl
+  replaced_spelled x new (tag n) h k = k
   replaced_spelled x new (app f ts) h k =
       let r = and_parts (is_spelled_head f (terms ts)) (are_spelled_terms ts) k in
       and_both (is_spelled_head f (terms (replaced_in x new ts))) (are_spelled_terms (replaced_in x new ts))
@@ -138,7 +140,7 @@ leaf_part-spelled s test h k =
 
 range_spelled : (a b : ℤ) → int_le a b ≡ true → int_le (negsuc 4611686018427387903) a ≡ true → int_le b (pos 4611686018427387904) ≡ true → is_spelled_sort (ints a b) ≡ true
 range_spelled a b h low high =
-    alone _ (and_both (int_le a b && int_le (negsuc 4611686018427387903) a) (int_le b (pos 4611686018427387904)) (and_both (int_le a b) (int_le (negsuc 4611686018427387903) a) h low) high)
+    alone _ (alone _ (and_both (int_le a b && int_le (negsuc 4611686018427387903) a) (int_le b (pos 4611686018427387904)) (and_both (int_le a b) (int_le (negsuc 4611686018427387903) a) h low) high))
 
 -- the ends, and the numbers beside them, are within the limits
 pub record AreEnds (lo hi : ℤ) : Type 0 where
@@ -165,8 +167,8 @@ are_ends lo hi h =
 
 -- ---- the program
 
-pub emitted_spelled : (t : PlainTheory) (p : PlainProgram) → is_spelled_theory t ≡ true → program_for t ≡ Some p → is_spelled_program p ≡ true
-emitted_spelled t p h e =
+pub emitted_spelled : (t : PlainTheory) (p : PlainProgram) → IsTheory t → program_for t ≡ Some p → is_spelled_program p ≡ true
+emitted_spelled t p is e =
     let m = program_emits t p e in
     let lo : ℤ = m.lo in
     let hi : ℤ = m.hi in
@@ -174,7 +176,7 @@ emitted_spelled t p h e =
     let defs = list_all is_spelled_definition t.signature.definitions in
     let inputs = list_all is_spelled_name t.spec.inputs in
     let output = is_spelled_name (t.spec.output, t.spec.sort) in
-    let a = and_parts (defs && inputs && is_spelled_term t.spec.condition && output) (is_spelled_term t.spec.relation) h in
+    let a = and_parts (defs && inputs && is_spelled_term t.spec.condition && output) (is_spelled_term t.spec.relation) is.spelled in
     let b = and_parts (defs && inputs && is_spelled_term t.spec.condition) output a.0 in
     let c = and_parts (defs && inputs) (is_spelled_term t.spec.condition) b.0 in
     let e = and_parts defs inputs c.0 in
@@ -186,6 +188,7 @@ emitted_spelled t p h e =
       inputs = e.1;
       condition = c.1;
       output = b.1;
+      wanted = is.wanted;
       main = alone _ (alone _ (and_both (in_limits lo) (in_limits hi && true) ends.low (alone (in_limits hi) ends.high)));
       parameters =
           and_both (is_spelled_name (codes "low", ints lo (hi +ℤ pos 1))) _ (and_both (is_name (codes "low")) (is_spelled_sort (ints lo (hi +ℤ pos 1))) low_name ends.lows)

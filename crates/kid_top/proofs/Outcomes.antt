@@ -62,7 +62,7 @@ pub record Gives (t : PlainTheory) (q : PlainProgram) : Type 0 where
 pub script_gives : (t : PlainTheory) (script : Option (List ℕ)) (q : PlainProgram) → IsTheory t → script_program t script ≡ Ok q → Gives t q
 script_gives t script q is e =
     let a = script_program_ok t script q e in
-    let same = texts_back a.0 q (emitted_spelled t a.0 is.spelled a.1) a.2 in
+    let same = texts_back a.0 q (emitted_spelled t a.0 is a.1) a.2 in
     record { emits = a.1 ∙ ap (λ (p : PlainProgram). Some p) (sym same); loads = ap (λ (p : PlainProgram). loading (program_text p)) same ∙ a.2 }
 
 pub script_searches : (t : PlainTheory) (script : Option (List ℕ)) (q : PlainProgram) → IsTheory t → script_program t script ≡ Ok q → Searches t q

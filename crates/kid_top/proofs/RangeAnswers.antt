@@ -6,7 +6,7 @@ use Rattle.std.specs.Ordering.{int_eq, int_cmp}
 use Rattle.std.specs.declared.cmp.Ordering.TheVariants.{Less}
 use Rattle.std.proofs.lemmas.Int.{ints as int_rules}
 use Rattle.std.proofs.lemmas.List.{take-map}
-use Rattle.kid_value.specs.PlainValue.{PlainValue, PlainValues, PlainEntries, int, bool, pair, set, seq, map_of}
+use Rattle.kid_value.specs.PlainValue.{PlainValue, PlainValues, PlainEntries, int, bool, pair, set, seq, map_of, tag}
 use Rattle.kid_value.specs.PlainSort.{PlainSort, ints}
 use Rattle.kid_value.specs.InSort.{in_sort}
 use Rattle.kid_value.specs.ValueSet.{is_member, AllAfter, Ascends}
@@ -53,6 +53,10 @@ no_map : (es : PlainEntries) (zs : List ℤ) → is_member (map_of es) (map int 
 no_map es [] = refl
 no_map es (z ∷ zs) = no_map es zs
 
+no_tag : (n : List ℕ) (zs : List ℤ) → is_member (tag n) (map int zs) ≡ false
+no_tag n [] = refl
+no_tag n (z ∷ zs) = no_tag n zs
+
 member-int : (z : ℤ) (zs : List ℤ) → is_member (int z) (map int zs) ≡ is_in z zs
 member-int z [] = refl
 member-int z (y ∷ ys) = ap (λ b. int_eq z y || b) (member-int z ys)
@@ -76,6 +80,7 @@ range-answer t x lo hi le (pair v w) = no_pair v w (range_search (relates_at t x
 range-answer t x lo hi le (set vs) = no_set vs (range_search (relates_at t x) (lo, hi))
 range-answer t x lo hi le (seq vs) = no_seq vs (range_search (relates_at t x) (lo, hi))
 range-answer t x lo hi le (map_of es) = no_map es (range_search (relates_at t x) (lo, hi))
+range-answer t x lo hi le (tag n) = no_tag n (range_search (relates_at t x) (lo, hi))
 range-answer t x lo hi le (int z) =
     member-int z (range_search (relates_at t x) (lo, hi))
     ∙ exact-int (relates_at t x) lo hi z (range_search (relates_at t x) (lo, hi))

@@ -2,7 +2,7 @@
 use Rattle.std.proofs.Common.{◌≡◌, ℕ, Bool, true, false, List, [], ◌∷◌, Ok, refl, sym, subst, cond}
 use Rattle.std.specs.Prelude.{not, ◌&&◌, ◌||◌}
 use Rattle.kid_value.specs.PlainSort.{PlainSort, sets}
-use Rattle.kid_term.specs.PlainTerm.{PlainTerm, var, number, truth, app, bind, PlainTerms, no_term, term}
+use Rattle.kid_term.specs.PlainTerm.{PlainTerm, var, number, truth, tag, app, bind, PlainTerms, no_term, term}
 use Rattle.kid_term.specs.Names.{same_name, Names, is_named, PlainDef}
 use Rattle.kid_term.specs.Sorted.{◌>>=◌}
 use Rattle.kid_term.specs.Written.{written}
@@ -37,6 +37,7 @@ mutual
   mentions-named (var x) known names s p y m = subst (λ z. is_named z names ≡ true) (sym (same_name-true y x m)) (named-sorted x names s p)
   mentions-named (number n) known names s p y m = cc
   mentions-named (truth b) known names s p y m = cc
+  mentions-named (tag n) known names s p y m = cc
   mentions-named (app g ts) known names s p y m =
       let r = bind_ok (least_sorts known names ts) (head_sort known g (written ts)) s p in some_mentions-named ts known names r.0 r.1 y m
   mentions-named (bind b x u t) known names s p y m =

@@ -3,7 +3,7 @@ use Rattle.std.proofs.Common.{◌≡◌, ℤ, true, refl}
 use Rattle.std.specs.Prelude.{IsTrue, ◌&&◌, negsuc, pos, int_le}
 use Rattle.std.specs.Fmt.{signed_decimal}
 use Rattle.kid_sexp.specs.Printing.{is_word, is_printable}
-use Rattle.kid_value.specs.PlainSort.{PlainSort, never, bools, ints, pairs, sets, seqs, maps}
+use Rattle.kid_value.specs.PlainSort.{PlainSort, never, bools, ints, pairs, sets, seqs, maps, enums}
 use Rattle.kid_value.specs.SortLimits.{in_limits, is_allowed}
 use Rattle.kid_value.proofs.SortLemmas.{and_parts, and_both, int_le-trans}
 use Rattle.kid_prog.proofs.Words.{number_word}
@@ -27,5 +27,6 @@ steps_printable (pairs a b) h = refl
 steps_printable (sets a) h = refl
 steps_printable (seqs a n) h = refl
 steps_printable (maps a b) h = refl
+steps_printable (enums ns) h = refl
 
 pub ruleset steps = (steps_printable)
