@@ -2,6 +2,7 @@
 use Rattle.std.proofs.Common.{◌≡◌, ℕ, zero, suc, Bool, true, false, List, [], ◌∷◌, Ok, refl, sym, ap, ◌∙◌, cond, subst, map}
 use Rattle.std.specs.Prelude.{not, ◌&&◌, ◌||◌, filter}
 use Rattle.std.specs.List.{list_all, list_any}
+use Rattle.kid_value.specs.PlainValue as value
 use Rattle.kid_value.specs.PlainValue.{PlainValue, int, bool, pair, set, seq, map_of}
 use Rattle.kid_value.specs.PlainSort.{PlainSort, sets}
 use Rattle.kid_value.specs.ValueSet.{is_member, value_eq, set_of}
@@ -89,11 +90,13 @@ and_at_false (bool false) (pair a b) e = refl
 and_at_false (bool false) (set a) e = refl
 and_at_false (bool false) (seq a) e = refl
 and_at_false (bool false) (map_of a) e = refl
+and_at_false (bool false) (value.tag n) e = refl
 and_at_false (int n) w e = refl
 and_at_false (pair a b) w e = refl
 and_at_false (set a) w e = refl
 and_at_false (seq a) w e = refl
 and_at_false (map_of a) w e = refl
+and_at_false (value.tag n) w e = refl
 
 and_false : (v : PlainValue) (vs : List PlainValue) → truth_of v ≡ false → logic_value And (v ∷ vs) ≡ bool false
 and_false v [] e = refl
@@ -116,6 +119,7 @@ choose_at_false (pair a b) x y z e = refl
 choose_at_false (set a) x y z e = refl
 choose_at_false (seq a) x y z e = refl
 choose_at_false (map_of a) x y z e = refl
+choose_at_false (value.tag n) x y z e = refl
 
 choose_at_true : (v w x y : PlainValue) → truth_of v ≡ true → row.choose v w x ≡ row.choose v w y
 choose_at_true (bool true) w x y e = refl
@@ -125,6 +129,7 @@ choose_at_true (pair a b) w x y e = refl
 choose_at_true (set a) w x y e = refl
 choose_at_true (seq a) w x y e = refl
 choose_at_true (map_of a) w x y e = refl
+choose_at_true (value.tag n) w x y e = refl
 
 if_first : (v x y : PlainValue) (vs : List PlainValue) → truth_of v ≡ false → logic_value If (v ∷ x ∷ vs) ≡ logic_value If (v ∷ y ∷ vs)
 if_first v x y [] e = refl

@@ -1,6 +1,7 @@
 //! Terms from short texts. A character is a head, and what it takes follows it:
 //!
-//! - `x` and each other small letter: a name; `7` and each other digit: a number; `T` and `F`: the truth values; `E`: `(set)`;
+//! - `x` and each other small letter: a name; `7` and each other digit: a number; `T` and `F`: the truth values; `'x`: the tag of
+//!   that name; `E`: `(set)`;
 //! - `,ab`: `(pair a b)`; `&ab`: `(set a b)`; `;ab`: `(seq a b)`; `M`: `(map)`; `=abc`: `(put a b c)`;
 //! - `!a`: `(not a)`; `#a`: `(wcard a)`; `<ab`: `(le a b)`; `+ab`: `(add a b)`; `?abc`: `(if a b c)`;
 //! - `@fa`: the call `(f a)`; `$fab`: `(f a b)`; `:9a`: the cast of `a` to `(int 0 9)`;
@@ -109,9 +110,14 @@ fn binding(alloc: Global, pile: &mut Vec<Term>, binder: Binder) -> Option<Term> 
     bound(binder, name, set, boxed(alloc, pile.pop()))
 }
 
+fn tag(name: Option<Text>) -> Option<Term> {
+    Some(Term::Lit(Literal::Tag(name?)))
+}
+
 // what makes a value of its parts, or a number
 fn composed(alloc: Global, pile: &mut Vec<Term>, head: u8) -> Option<Term> {
     match head {
+        b'\'' => tag(name_of(pile.pop())),
         b',' => operation(alloc, pile, Op::Pair(PairOp::Pair), 2),
         b'&' => operation(alloc, pile, Op::Set(SetOp::Set), 2),
         b';' => operation(alloc, pile, Op::Seq(SeqOp::Seq), 2),

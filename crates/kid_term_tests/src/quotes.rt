@@ -27,7 +27,7 @@ fn quotes(rt: &impl Abort, alloc: Global, rows: &[(&str, &str)]) {
     }
 }
 
-const QUOTED: [(&str, &str); 11] = [
+const QUOTED: [(&str, &str); 14] = [
     ("7", "7"),
     ("T", "T"),
     (",1F", ",1F"),
@@ -41,6 +41,10 @@ const QUOTED: [(&str, &str); 11] = [
     // the last key is the outermost
     ("==M3T1F", "==M1F3T"),
     ("=M;,12=M45&98", "=M;,12=M45&89"),
+    ("r", "'r"),
+    // names ascend by their bytes
+    ("&rb", "&'b'r"),
+    ("==M2r1b", "==M1'b2'r"),
 ];
 
 #[test]

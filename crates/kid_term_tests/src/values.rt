@@ -1,10 +1,10 @@
 //! Values from short texts, which are read as those of terms are. A character is a head, and what it takes follows it:
 //!
-//! - `7` and each other digit: a number; `T` and `F`: the truth values; `,ab`: a pair;
+//! - `7` and each other digit: a number; `T` and `F`: the truth values; each small letter: the tag of that name; `,ab`: a pair;
 //! - `&ab`: the set of two values; `;ab`: the sequence of two; `M`: the empty map; `=abc`: the map `a` with the value `c` at `b`.
 //!
 //! `None` is want of memory, or a text that is no value.
-use kid_value::{Entries, Members, Value, Values};
+use kid_value::{Entries, Members, Text, Value, Values};
 use std::alloc::Global;
 
 fn pair(alloc: Global, pile: &mut Vec<Value>) -> Option<Value> {
@@ -58,6 +58,11 @@ fn number(digit: u8) -> Option<Value> {
     }
 }
 
+fn tag(alloc: Global, letter: u8) -> Option<Value> {
+    let name = Text::from_slice(alloc, &[letter]).ok()?;
+    Some(Value::Tag(name))
+}
+
 fn read(alloc: Global, pile: &mut Vec<Value>, head: u8) -> Option<Value> {
     match head {
         b'T' => Some(Value::Bool(true)),
@@ -67,7 +72,11 @@ fn read(alloc: Global, pile: &mut Vec<Value>, head: u8) -> Option<Value> {
         b'&' => set(alloc, pile),
         b';' => sequence(alloc, pile),
         b'=' => put(pile),
-        digit => number(digit),
+        _ => if head.is_ascii_lowercase() {
+            tag(alloc, head)
+        } else {
+            number(head)
+        },
     }
 }
 
