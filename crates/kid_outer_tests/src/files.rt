@@ -1,8 +1,7 @@
 //! The files of the system.
 use kid_outer::{Files, LoadAnswer, SaveAnswer, Store};
-use std::fs;
-use std::process;
 use std::test::Fail;
+use std::{fs, process};
 
 #[test]
 fn loads_what_was_saved(rt: HostRuntime) -> Result<(), Fail> {
