@@ -22,7 +22,11 @@ use Rattle.kid_codec.proofs.Found.{both_some}
 use Rattle.kid_codec.proofs.SortBack.{sort_back}
 use Rattle.kid_prog.specs.PlainStmt.{PlainStmt, assign, when, each, emit, call as calling, PlainStmts, no_stmt, stmt}
 use Rattle.kid_prog.specs.PlainProgram.{PlainProgram}
-use Rattle.kid_prog.specs.Spelling.{stmt_spelling, stmt_spellings, names_spelling, definition_spelling, definitions_before, inputs_before, first_before, main_forms, last_forms, program_spelling, is_spelled_stmt, are_spelled_stmts, is_spelled_name, is_spelled_definition, is_spelled_program}
+use Rattle.kid_prog.specs.Formats.{format_for}
+use Rattle.kid_prog.specs.Tags.{program_has_tags}
+use Rattle.kid_prog.specs.declared.format.Format.{Format}
+use Rattle.kid_prog.specs.declared.format.Format.TheVariants.{One, Two}
+use Rattle.kid_prog.specs.Spelling.{stmt_spelling, stmt_spellings, names_spelling, definition_spelling, definitions_before, inputs_before, first_before, main_forms, last_forms, format_spelling, program_spelling, is_spelled_stmt, are_spelled_stmts, is_spelled_name, is_spelled_definition, is_spelled_program}
 use Rattle.kid_prog.proofs.FormBack.{count_small}
 use Rattle.kid_prog.proofs.ProgramParts.{spelled_parts}
 use Rattle.kid_prog.proofs.Words.{name_word, decimal_word, number_word, read_number_word, op_word, binder_is_word}
@@ -146,6 +150,10 @@ first_printable None rest h k = k
 first_printable (Some n) rest h k =
     and_both (is_word (decimal n) && true) (is_printable rest) (alone (is_word (decimal n)) (number_word (pos n) (count_small n h))) k
 
+format_printable : (f : Format) → is_printable_tree (format_spelling f) ≡ true
+format_printable One = alone (is_word (decimal 1)) (number_word (pos 1) refl)
+format_printable Two = alone (is_word (decimal 2)) (number_word (pos 2) refl)
+
 pub program_printable : (p : PlainProgram) → is_spelled_program p ≡ true → is_printable (program_spelling p) ≡ true
 program_printable p h =
     let s = spelled_parts p h in
@@ -156,5 +164,5 @@ program_printable p h =
     (and_both (is_word p.output && (is_printable_tree (sort_spelling p.sort) && true)) _ (name_printable p.output p.sort s.output)
     (first_printable p.first (main_forms p) s.wanted
     (and_both (is_printable (stmt_spellings p.main)) _ (stmts_printable p.main s.main) (alone _ search)))) in
-    and_both (is_word (decimal 1) && true) _ (alone (is_word (decimal 1)) (number_word (pos 1) refl))
+    and_both (is_printable_tree (format_spelling (format_for (program_has_tags p)))) _ (format_printable (format_for (program_has_tags p)))
     (definitions_printable p.definitions (inputs_before p.inputs (last_forms p)) s.definitions (inputs_printable p.inputs (last_forms p) s.inputs last))

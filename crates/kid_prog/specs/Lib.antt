@@ -1,5 +1,6 @@
 pub mod FormAnswers
 pub mod FormParts
+pub mod Formats
 pub mod Formed
 pub mod Forms
 pub mod HeadingView
@@ -18,3 +19,4 @@ pub mod StmtCode
 pub mod StmtFalls
 pub mod StmtShape
 pub mod StmtView
+pub mod Tags
