@@ -55,6 +55,7 @@ fn value_of<'a>(
         Term::Var(x) => seen_value(&look_up(scope, x)).copy(alloc),
         Term::Lit(Literal::Int(n)) => Ok(Value::Int(*n)),
         Term::Lit(Literal::Bool(b)) => Ok(Value::Bool(*b)),
+        Term::Lit(Literal::Tag(name)) => Ok(Value::Tag(name.copy(alloc)?)),
         Term::App(Head::Op(op), args) => operate(alloc, defs, scope, *op, args.items()),
         Term::App(Head::Call(f), args) => {
             let values = see_all(alloc, defs, scope, args.items())?;

@@ -5,7 +5,7 @@ use Rattle.std.specs.Int.{int_gap}
 use Rattle.std.proofs.lemmas.Int.{ints as int_rules}
 use Rattle.kid_value.specs.Canonical.{IsCanonical}
 use Rattle.kid_value.specs.PlainValue as value
-use Rattle.kid_value.specs.PlainValue.{PlainValue, int, bool, pair, seq, map_of, entries}
+use Rattle.kid_value.specs.PlainValue.{PlainValue, int, bool, pair, seq, map_of, tag, entries}
 use Rattle.kid_value.specs.Rows.Kinds.{set_from}
 use Rattle.kid_value.specs.Rows.Set.{numbers}
 use Rattle.kid_value.specs.SortCount.{interval_count}
@@ -50,6 +50,7 @@ numbers_between a b (pair v w) = no_number (pair v w) (λ n. refl) a (interval_c
 numbers_between a b (value.set vs) = no_number (value.set vs) (λ n. refl) a (interval_count a b)
 numbers_between a b (seq vs) = no_number (seq vs) (λ n. refl) a (interval_count a b)
 numbers_between a b (map_of m) = no_number (map_of m) (λ n. refl) a (interval_count a b)
+numbers_between a b (tag m) = no_number (tag m) (λ n. refl) a (interval_count a b)
 
 -- the sets of the same values are one
 same_set : (p : PlainValue → Bool) (s t : PlainValue) → IsCanonical s → IsCanonical t → IsSetOf p s → IsSetOf p t → s ≡ t

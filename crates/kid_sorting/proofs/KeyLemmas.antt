@@ -3,7 +3,7 @@ use Rattle.std.proofs.Common.{◌≡◌, refl, ℕ, ◌+◌, ◌<◌, ◌≤◌,
 use Rattle.std.specs.Prelude.{ℤ, pos, ◌+ℤ◌, ◌-ℤ◌, FitsSigned, nat_le, ◌&&◌}
 use Rattle.std.specs.Int.{w64, int_min, int_max}
 use Rattle.std.proofs.lemmas.Int.{ints as int_rules, clamps}
-use Rattle.kid_value.specs.PlainSort.{PlainSort, never, bools, ints, pairs, sets, seqs, maps}
+use Rattle.kid_value.specs.PlainSort.{PlainSort, never, bools, ints, pairs, sets, seqs, maps, enums}
 use Rattle.kid_value.specs.SortOrder.{join}
 use Rattle.kid_value.specs.SortLimits.{is_bounded, is_allowed, sort_depth}
 use Rattle.kid_value.specs.SortCount.{count_of}
@@ -49,6 +49,7 @@ joined_outside lo n (pairs a b) fit unfit p = cc
 joined_outside lo n (sets a) fit unfit p = cc
 joined_outside lo n (seqs a m) fit unfit p = cc
 joined_outside lo n (maps a b) fit unfit p = cc
+joined_outside lo n (enums ns) fit unfit p = cc
 
 -- what are no keys has no sort with keys above it
 pub not_joined : (lo : ℤ) (n : ℕ) (d : PlainSort) → are_keys d ≡ false → with_join (join (keys_from lo n) d) allowed ≡ Err Kind
@@ -59,6 +60,7 @@ not_joined lo n (pairs a b) p = refl
 not_joined lo n (sets a) p = refl
 not_joined lo n (seqs a m) p = refl
 not_joined lo n (maps a b) p = refl
+not_joined lo n (enums ns) p = refl
 
 -- what is made of two sorts where there are fewer or more
 pub two_missing : (ss : List Sort) (k : PlainSort → PlainSort → Sorted) → length ss < 2 → with_two (map plain_sort ss) k ≡ Err Kind

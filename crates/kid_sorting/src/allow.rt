@@ -1,11 +1,11 @@
-ghost use Rattle.std.specs.Prelude.{◌≡◌};
-ghost use Rattle.kid_value.specs.PlainSort.{ints, pairs, sets, seqs, maps};
+ghost use Rattle.std.specs.Prelude.{◌≡◌, ◌∷◌, []};
+ghost use Rattle.kid_value.specs.PlainSort.{ints, pairs, sets, seqs, maps, enums};
 ghost use Rattle.kid_value.specs.SortView.{plain_sort};
 ghost use Rattle.kid_term.specs.Sorted.{allowed};
 ghost use Rattle.kid_sorting.specs.Answers.{SortGives};
 
 use crate::fault::SortFault;
-use kid_value::{Sort, sort_ok};
+use kid_value::{Sort, Text, Texts, sort_ok};
 use std::alloc::Global;
 
 /// As many items a sequence of a sort may have.
@@ -27,6 +27,15 @@ pub fn between(lo: i64, hi: i64) -> Result<Sort, SortFault>
     ensures { SortGives result (allowed (ints lo hi)) }
 {
     allow(Sort::Int { lo, hi })
+}
+
+/// The sort that one name alone is in.
+pub fn enum_of(alloc: Global, name: &Text) -> Result<Sort, SortFault>
+    ensures { SortGives result (allowed (enums (name.now ∷ []))) }
+{
+    let mut names = Texts::new(alloc);
+    names.push(name.copy(alloc)?)?;
+    allow(Sort::Enum(names))
 }
 
 /// The sort of the pairs of two sorts, if it is an allowed one.

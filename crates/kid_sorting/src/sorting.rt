@@ -10,7 +10,7 @@ ghost use Rattle.kid_sorting.specs.Binders.{over_set as sort_over_set};
 ghost use Rattle.kid_sorting.specs.Answers.{SortGives, SortsGive};
 ghost use Rattle.kid_sorting.specs.ScopeView.{names_of};
 
-use crate::allow::between;
+use crate::allow::{between, enum_of};
 use crate::binder::binder_sort;
 use crate::fault::SortFault;
 use crate::head::head_sort;
@@ -82,6 +82,7 @@ fn least_sort<'a>(
         Term::Var(name) => sort_named(alloc, scope, name),
         Term::Lit(Literal::Int(n)) => between(*n, *n),
         Term::Lit(Literal::Bool(_)) => Ok(Sort::Bool),
+        Term::Lit(Literal::Tag(name)) => enum_of(alloc, name),
         Term::App(head, args) => {
             let sorts = least_sorts(alloc, definitions, scope, args.items())?;
             head_sort(alloc, definitions, head, args.items(), &sorts)

@@ -7,7 +7,7 @@ use Rattle.std.proofs.Math.IntN.{zero-*ℤ}
 use Rattle.std.proofs.lemmas.Int.{ints as int_rules, clamps}
 use Rattle.std.proofs.lemmas.List.{length-map}
 use Rattle.kid_value.specs.PlainValue.{PlainValue, int, bool}
-use Rattle.kid_value.specs.PlainSort.{PlainSort, never, bools, ints, pairs, sets, seqs, maps}
+use Rattle.kid_value.specs.PlainSort.{PlainSort, never, bools, ints, pairs, sets, seqs, maps, enums}
 use Rattle.kid_value.specs.SortLimits.{is_allowed}
 use Rattle.kid_value.specs.SortCount.{count_of}
 use Rattle.kid_value.specs.Rows.Parts.{truth_of, total}
@@ -79,6 +79,7 @@ summed num (pairs a b) s vs p h q = cc
 summed num (sets a) s vs p h q = cc
 summed num (seqs a n) s vs p h q = cc
 summed num (maps a b) s vs p h q = cc
+summed num (enums ns) s vs p h q = cc
 
 truth_evaluates : (b : Bool) (s : PlainSort) → ok bools ≡ Ok s → Evaluates s (bool b) true
 truth_evaluates b s p = record { sound = truth_sound b s p; stays = refl }

@@ -9,8 +9,9 @@ use Rattle.std.proofs.lemmas.Int.{ints as int_rules}
 use Rattle.std.proofs.lemmas.Bool.Decides.{nat_tests}
 use Rattle.std.proofs.lemmas.Nat.{mul-add-lt}
 use Rattle.std.proofs.Math.Nat.{mul-le-mul_right}
-use Rattle.kid_value.specs.PlainValue.{PlainValue, int, bool, pair, set, seq, map_of, PlainValues, PlainEntries, no_entry, entry, items, entries}
-use Rattle.kid_value.specs.PlainSort.{PlainSort, never, bools, ints, pairs, sets, seqs, maps, has_sort}
+use Rattle.kid_value.specs.NameSet.{name_cmp, is_among}
+use Rattle.kid_value.specs.PlainValue.{PlainValue, int, bool, pair, set, seq, map_of, tag, PlainValues, PlainEntries, no_entry, entry, items, entries}
+use Rattle.kid_value.specs.PlainSort.{PlainSort, never, bools, ints, pairs, sets, seqs, maps, enums, has_sort}
 use Rattle.kid_value.specs.SortLimits.{sort_depth, is_bounded, is_allowed}
 use Rattle.kid_value.specs.SortCount.{count_of, interval_count, sequence_count}
 use Rattle.kid_value.specs.Canonical.{EntriesAreCanonical}
@@ -24,6 +25,7 @@ use Rattle.kid_value.proofs.ValueOrderLaws.{value_cmp-equal}
 use Rattle.kid_term.specs.Fitting.{IsOfSort}
 use Rattle.kid_term.proofs.Inversions.{int_of, none_of}
 use Rattle.kid_term.proofs.Members.{Each, Each-items, AreMembers}
+use Rattle.kid_term.proofs.NameRanks.{names_before, names_before-below, names_before-lt}
 use Rattle.kid_term.proofs.Ranks.{Ranked, ranked-length}
 use Rattle.kid_term.proofs.SetRanks.{set_number, set_number-below, set_number-lt, keys_in, EachEntry, map_number, map_number-below, map_number-lt}
 use Rattle.kid_term.proofs.SeqRanks.{seq_number, seq_number-below, seq_number-lt}
@@ -36,6 +38,7 @@ rank (pairs a b) (pair v w) = rank a v * value_count b + rank b w
 rank (sets a) (set vs) = set_number (value_count a) (rank a) (items vs)
 rank (seqs a n) (seq vs) = seq_number (value_count a) (rank a) n (items vs)
 rank (maps a b) (map_of es) = map_number (value_count a) (value_count b) (rank a) (rank b) es
+rank (enums ns) (tag n) = names_before n ns
 rank s v = 0
 
 -- ---- what a value of each sort is made of
@@ -77,6 +80,10 @@ each_entry a b (entry k v es) h c =
 map_parts : (a b : PlainSort) (v : PlainValue) → IsOfSort (maps a b) v → (es : PlainEntries) × (v ≡ map_of es) × EachEntry (IsOfSort a) (IsOfSort b) es × Ascends (keys_in es)
 map_parts a b (map_of es) h = (es, refl, each_entry a b es h.has h.canonical.1, subst Ascends (keys-in es) h.canonical.0)
 map_parts a b v h = let no' : false ≡ true = h.has in cc
+
+tag_parts : (ns : List (List ℕ)) (v : PlainValue) → IsOfSort (enums ns) v → (n : List ℕ) × (v ≡ tag n) × (is_among n ns ≡ true)
+tag_parts ns (tag n) h = (n, refl, h.has)
+tag_parts ns v h = let no' : false ≡ true = h.has in cc
 
 -- ---- the numbers of each sort
 
@@ -200,6 +207,12 @@ module _ (a : PlainSort) (k : Ranked (IsOfSort a) (rank a) (value_count a)) wher
         let j = seq_parts a n w g in at_parts (rank (seqs a n)) v w (seq i.0) (seq j.0) i.1 j.1 (seq_number-lt (IsOfSort a) (rank a) (value_count a) k n i.0 j.0 i.2 i.3 j.2 j.3) p;
   }
 
+enums_ranked : (ns : List (List ℕ)) → Ranked (IsOfSort (enums ns)) (rank (enums ns)) (length ns)
+enums_ranked ns = record {
+  below = λ v h. let i = tag_parts ns v h in below_parts (rank (enums ns)) (length ns) v (tag i.0) i.1 (names_before-below i.0 ns i.2);
+  grows = λ v w h k p. let i = tag_parts ns v h in let j = tag_parts ns w k in at_parts (rank (enums ns)) v w (tag i.0) (tag j.0) i.1 j.1 (λ q. names_before-lt i.0 j.0 q ns i.2) p;
+}
+
 pub ranked : (s : PlainSort) → Ranked (IsOfSort s) (rank s) (value_count s)
 unfolding value_count
 ranked never = record { below = λ v h. absurd (none_of v h.has); grows = λ v w h k p. absurd (none_of v h.has) }
@@ -209,6 +222,7 @@ ranked (pairs a b) = pairs_ranked a b (ranked a) (ranked b)
 ranked (sets a) = sets_ranked a (ranked a)
 ranked (seqs a n) = seqs_ranked a (ranked a) n
 ranked (maps a b) = maps_ranked a b (ranked a) (ranked b)
+ranked (enums ns) = enums_ranked ns
 
 -- ---- counts
 

@@ -1,12 +1,13 @@
 -- Applications are equal where their heads and arguments are, and each term has a node.
 use Rattle.std.proofs.Common.{◌≡◌, ◌<◌, Bool, List, [], ◌∷◌, refl, sym, ap, ◌∙◌, arith}
 use Rattle.std.specs.Prelude.{IsTrue, ◌↔◌}
-use Rattle.kid_term.specs.PlainTerm.{PlainHead, PlainTerm, var, number, truth, app, bind, PlainTerms, terms, term_row, node_count}
+use Rattle.kid_term.specs.PlainTerm.{PlainHead, PlainTerm, var, number, truth, tag, app, bind, PlainTerms, terms, term_row, node_count}
 
 pub some_node : (t : PlainTerm) → 0 < node_count t
 some_node (var x) = omega arith
 some_node (number n) = omega arith
 some_node (truth b) = omega arith
+some_node (tag n) = omega arith
 some_node (app h ts) = omega arith
 some_node (bind b x s t) = omega arith
 

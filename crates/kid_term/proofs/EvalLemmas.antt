@@ -4,7 +4,7 @@ use Rattle.std.specs.Prelude.{not, ◌&&◌, ◌||◌, nat_eq}
 use Rattle.std.proofs.lemmas.Bool.Decides.{nat_tests}
 use Rattle.kid_value.specs.PlainValue.{PlainValue}
 use Rattle.kid_value.specs.Rows.Parts.{members_of}
-use Rattle.kid_term.specs.PlainTerm.{PlainTerm, var, number, truth, app, bind, PlainTerms, no_term, term, term_row}
+use Rattle.kid_term.specs.PlainTerm.{PlainTerm, var, number, truth, tag, app, bind, PlainTerms, no_term, term, term_row}
 use Rattle.kid_term.specs.TermView.{plain_term}
 use Rattle.kid_term.specs.declared.Term.{Term}
 use Rattle.kid_term.specs.declared.operator.Binder.{Binder}
@@ -69,6 +69,7 @@ module _ (calls : Calls) where
     eval-agree (var x) env env' h = h x (same_name-itself x)
     eval-agree (number n) env env' h = refl
     eval-agree (truth b) env env' h = refl
+    eval-agree (tag n) env env' h = refl
     eval-agree (app g ts) env env' h = ap (head_value calls g) (evals-agree ts env env' h)
     eval-agree (bind b x s t) env env' h =
         let e = eval-agree s env env' (λ y m. h y (or_left (mentions y s) (not (same_name y x) && mentions y t) m)) in
@@ -134,6 +135,7 @@ module _ (calls : Calls) (x : List ℕ) (new : PlainTerm) where
         at_name false e = h y (same_name-itself y) e
     eval-replaced (number n) env env' p h k = refl
     eval-replaced (truth b) env env' p h k = refl
+    eval-replaced (tag n) env env' p h k = refl
     eval-replaced (app g ts) env env' p h k = ap (head_value calls g) (evals-replaced ts env env' p h k)
     eval-replaced (bind b y s t) env env' p h k =
         let parts = or_none (captures x new s) (not (same_name x y) && ((mentions y new && mentions x t) || captures x new t)) p in

@@ -2,13 +2,14 @@
 use Rattle.std.proofs.Common.{◌≡◌, ℕ, zero, suc, Bool, true, false, List, [], ◌∷◌, Ok, refl, sym, ap, ◌∙◌, cond, subst, map}
 use Rattle.std.specs.Prelude.{not, ◌&&◌, ◌||◌, filter}
 use Rattle.std.specs.List.{list_all, list_any}
+use Rattle.kid_value.specs.PlainValue as value
 use Rattle.kid_value.specs.PlainValue.{PlainValue, int, bool, pair, set, seq, map_of}
 use Rattle.kid_value.specs.PlainSort.{PlainSort, sets}
 use Rattle.kid_value.specs.ValueSet.{is_member, value_eq, set_of}
 use Rattle.kid_value.specs.Rows.Parts.{truth_of, members_of, total}
 use Rattle.kid_value.specs.Rows.Kinds.{set_from}
 use Rattle.kid_value.proofs.ValueSetLaws.{value_eq-itself, value_eq-true}
-use Rattle.kid_term.specs.PlainTerm.{PlainHead, op, PlainTerm, var, number, truth, app, bind, PlainTerms, no_term, term}
+use Rattle.kid_term.specs.PlainTerm.{PlainHead, op, PlainTerm, var, number, truth, tag, app, bind, PlainTerms, no_term, term}
 use Rattle.kid_term.specs.declared.operator.Op.TheVariants.{Logic}
 use Rattle.kid_term.specs.declared.operator.LogicOp.TheVariants.{And, Implies, If}
 use Rattle.kid_term.specs.declared.operator.Binder.{Binder}
@@ -89,11 +90,13 @@ and_at_false (bool false) (pair a b) e = refl
 and_at_false (bool false) (set a) e = refl
 and_at_false (bool false) (seq a) e = refl
 and_at_false (bool false) (map_of a) e = refl
+and_at_false (bool false) (value.tag n) e = refl
 and_at_false (int n) w e = refl
 and_at_false (pair a b) w e = refl
 and_at_false (set a) w e = refl
 and_at_false (seq a) w e = refl
 and_at_false (map_of a) w e = refl
+and_at_false (value.tag n) w e = refl
 
 and_false : (v : PlainValue) (vs : List PlainValue) → truth_of v ≡ false → logic_value And (v ∷ vs) ≡ bool false
 and_false v [] e = refl
@@ -116,6 +119,7 @@ choose_at_false (pair a b) x y z e = refl
 choose_at_false (set a) x y z e = refl
 choose_at_false (seq a) x y z e = refl
 choose_at_false (map_of a) x y z e = refl
+choose_at_false (value.tag n) x y z e = refl
 
 choose_at_true : (v w x y : PlainValue) → truth_of v ≡ true → row.choose v w x ≡ row.choose v w y
 choose_at_true (bool true) w x y e = refl
@@ -125,6 +129,7 @@ choose_at_true (pair a b) w x y e = refl
 choose_at_true (set a) w x y e = refl
 choose_at_true (seq a) w x y e = refl
 choose_at_true (map_of a) w x y e = refl
+choose_at_true (value.tag n) w x y e = refl
 
 if_first : (v x y : PlainValue) (vs : List PlainValue) → truth_of v ≡ false → logic_value If (v ∷ x ∷ vs) ≡ logic_value If (v ∷ y ∷ vs)
 if_first v x y [] e = refl
@@ -184,11 +189,13 @@ module _ (known : List PlainDef) (calls : Calls) (checks : Checks) (fit : CallsF
     eval-put_at (var x) [] new names env s s' p p' a h k = k
     eval-put_at (number n) [] new names env s s' p p' a h k = k
     eval-put_at (truth b) [] new names env s s' p p' a h k = k
+    eval-put_at (tag n) [] new names env s s' p p' a h k = k
     eval-put_at (app g ts) [] new names env s s' p p' a h k = k
     eval-put_at (bind b x u t) [] new names env s s' p p' a h k = k
     eval-put_at (var x) (i ∷ path) new names env s s' p p' a h k = refl
     eval-put_at (number n) (i ∷ path) new names env s s' p p' a h k = refl
     eval-put_at (truth b) (i ∷ path) new names env s s' p p' a h k = refl
+    eval-put_at (tag n) (i ∷ path) new names env s s' p p' a h k = refl
     eval-put_at (app g ts) (i ∷ path) new names env s s' p p' a h k =
         let r = bind_ok (least_sorts known names ts) (head_sort known g (written ts)) s p in
         let r' = bind_ok (least_sorts known names (put_among ts i path new)) (head_sort known g (written (put_among ts i path new))) s' p' in

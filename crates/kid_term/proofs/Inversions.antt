@@ -2,7 +2,7 @@
 use Rattle.std.proofs.Common.{◌≡◌, ℤ, Bool, true, false, List, [], ◌∷◌, Option, Some, None, Result, Ok, Err, refl, sym, ap, ◌∙◌, cond, subst, arith}
 use Rattle.std.specs.Prelude.{◌≤ℤ◌, ◌&&◌, int_le}
 use Rattle.std.proofs.lemmas.Int.{ints as int_rules}
-use Rattle.kid_value.specs.PlainValue.{PlainValue, int, bool, pair, set, seq, map_of}
+use Rattle.kid_value.specs.PlainValue.{PlainValue, int, bool, pair, set, seq, map_of, tag}
 use Rattle.kid_value.specs.PlainSort.{PlainSort, never, bools, ints, sets, has_sort}
 use Rattle.kid_value.specs.SortLimits.{is_allowed}
 use Rattle.kid_term.specs.Sorted.{Fault, Sorted, Bounds, ◌>>=◌, allowed, with_one, with_two, with_three, with_four, with_bool, with_ints, with_set, with_join}
@@ -124,6 +124,7 @@ none_of (pair a b) h = cc
 none_of (set vs) h = cc
 none_of (seq vs) h = cc
 none_of (map_of es) h = cc
+none_of (tag n) h = cc
 
 -- two integers between their bounds, and what is made of those
 pub record TwoInts (vs : List PlainValue) (k : ℤ → ℤ → ℤ → ℤ → Sorted) (s : PlainSort) : Type 0 where

@@ -10,9 +10,11 @@ pub mod LogicSound
 pub mod MapSound
 pub mod Members
 pub mod NameLemmas
+pub mod NameRanks
 pub mod NumberSound
 pub mod PairSound
 pub mod Products
+pub mod QuoteLemmas
 pub mod Quotients
 pub mod Ranks
 pub mod RenameLemmas
@@ -24,7 +26,6 @@ pub mod SetRanks
 pub mod SetSound
 pub mod SizeLemmas
 pub mod SortedValue
-pub mod SubsortLemmas
 pub mod Sums
 pub mod WordBits
 pub mod WordSound

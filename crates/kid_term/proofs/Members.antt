@@ -3,7 +3,7 @@ use Rattle.std.proofs.Common.{◌≡◌, Bool, true, false, List, [], ◌∷◌,
 use Rattle.std.specs.declared.cmp.Ordering.TheVariants.{Less, Equal, Greater}
 use Rattle.std.specs.Prelude.{filter}
 use Rattle.std.specs.List.{list_all}
-use Rattle.kid_value.specs.PlainValue.{PlainValue, int, bool, pair, set, seq, map_of, PlainValues, none, more, items, row}
+use Rattle.kid_value.specs.PlainValue.{PlainValue, int, bool, pair, set, seq, map_of, tag, PlainValues, none, more, items, row}
 use Rattle.kid_value.specs.PlainSort.{PlainSort, sets, has_sort}
 use Rattle.kid_value.specs.Canonical.{AreCanonical}
 use Rattle.kid_value.specs.ValueOrder.{value_cmp}
@@ -65,6 +65,7 @@ members_sound a (bool b) h = let no' : false ≡ true = h.has in cc
 members_sound a (pair v w) h = let no' : false ≡ true = h.has in cc
 members_sound a (seq vs) h = let no' : false ≡ true = h.has in cc
 members_sound a (map_of es) h = let no' : false ≡ true = h.has in cc
+members_sound a (tag n) h = let no' : false ≡ true = h.has in cc
 
 pub AreCanonical-row : (a : PlainSort) (vs : List PlainValue) → Each (IsOfSort a) vs → AreCanonical (row vs)
 AreCanonical-row a [] h = tt

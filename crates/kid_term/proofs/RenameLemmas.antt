@@ -3,7 +3,7 @@ use Rattle.std.proofs.Common.{◌≡◌, ℕ, Bool, true, false, List, ◌∷◌
 use Rattle.std.specs.Prelude.{not, ◌&&◌, ◌||◌, IfOk}
 use Rattle.kid_value.specs.PlainValue.{PlainValue}
 use Rattle.kid_value.specs.Rows.Parts.{members_of}
-use Rattle.kid_term.specs.PlainTerm.{PlainTerm, var, number, truth, app, bind, PlainTerms, no_term, term}
+use Rattle.kid_term.specs.PlainTerm.{PlainTerm, var, number, truth, tag, app, bind, PlainTerms, no_term, term}
 use Rattle.kid_term.specs.declared.operator.Binder.{Binder}
 use Rattle.kid_term.specs.Names.{same_name}
 use Rattle.kid_term.specs.Eval.{Env, Calls, value_at, binder_value, eval}
@@ -22,6 +22,7 @@ module _ (x to : List ℕ) where
     captures-unbound (var y) p = refl
     captures-unbound (number n) p = refl
     captures-unbound (truth b) p = refl
+    captures-unbound (tag n) p = refl
     captures-unbound (app h ts) p = some_capture-unbound ts p
     captures-unbound (bind b y s t) p =
         let r = or_none (same_name to y || binds to s) (binds to t) p in
@@ -65,6 +66,7 @@ pub eval-of_renamed : (to : List ℕ) (t r : PlainTerm) → renamed to t ≡ Ok 
 eval-of_renamed to (var y) r e calls env = cc
 eval-of_renamed to (number n) r e calls env = cc
 eval-of_renamed to (truth b) r e calls env = cc
+eval-of_renamed to (tag n) r e calls env = cc
 eval-of_renamed to (app h ts) r e calls env = cc
 eval-of_renamed to (bind b x s t) r e calls env = by (mentions to t) (binds to t) refl refl e
   where

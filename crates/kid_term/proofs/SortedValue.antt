@@ -4,16 +4,18 @@ use Rattle.std.specs.Prelude.{◌&&◌, ◌||◌, ◌≤ℤ◌, int_le, nat_le, 
 use Rattle.std.specs.List.{list_all}
 use Rattle.std.proofs.lemmas.Int.{ints as int_rules}
 use Rattle.std.proofs.lemmas.Bool.Decides.{nat_tests}
+use Rattle.kid_value.specs.PlainValue as value
 use Rattle.kid_value.specs.PlainValue.{PlainValue, int, bool, pair, set, seq, map_of, items}
-use Rattle.kid_value.specs.PlainSort.{PlainSort, never, bools, ints, pairs, sets, seqs, maps, has_sort, has_never}
+use Rattle.kid_value.specs.PlainSort.{PlainSort, never, bools, ints, pairs, sets, seqs, maps, enums, has_sort, has_never}
 use Rattle.kid_value.specs.SortOrder.{is_subsort}
 use Rattle.kid_value.specs.SortLimits.{in_limits, is_allowed, is_bounded, sort_depth}
 use Rattle.kid_value.specs.SortCount.{count_of}
 use Rattle.kid_value.specs.Canonical.{IsCanonical}
 use Rattle.kid_value.specs.Least.{least_value}
 use Rattle.kid_value.specs.Rows.Parts.{members_of}
+use Rattle.kid_value.proofs.NameLemmas.{least_from-among}
 use Rattle.kid_value.proofs.SortLemmas.{and_parts, and_both, int_le-itself}
-use Rattle.kid_term.specs.PlainTerm.{PlainHead, op, call, cast, PlainTerm, var, number, truth, app, bind, PlainTerms, no_term, term, node_count, depth}
+use Rattle.kid_term.specs.PlainTerm.{PlainHead, op, call, cast, PlainTerm, var, number, truth, tag, app, bind, PlainTerms, no_term, term, node_count, depth}
 use Rattle.kid_term.specs.declared.operator.Op.TheVariants.{Logic, Number, Pair, Set, Seq, Map, Word}
 use Rattle.kid_term.specs.declared.operator.SeqOp.{SeqOp}
 use Rattle.kid_term.specs.declared.operator.SeqOp.TheVariants.{Total}
@@ -51,12 +53,14 @@ small_of s (pair v w) h = refl
 small_of s (set vs) h = refl
 small_of s (seq vs) h = refl
 small_of s (map_of es) h = refl
+small_of s (value.tag n) h = refl
 small_of never (int n) h = let no' : false ≡ true = h.of_sort.has in cc
 small_of bools (int n) h = let no' : false ≡ true = h.of_sort.has in cc
 small_of (pairs a b) (int n) h = let no' : false ≡ true = h.of_sort.has in cc
 small_of (sets a) (int n) h = let no' : false ≡ true = h.of_sort.has in cc
 small_of (seqs a m) (int n) h = let no' : false ≡ true = h.of_sort.has in cc
 small_of (maps a b) (int n) h = let no' : false ≡ true = h.of_sort.has in cc
+small_of (enums ns) (int n) h = let no' : false ≡ true = h.of_sort.has in cc
 
 -- a sequence of an allowed sort is short
 short_of : (s : PlainSort) (v : PlainValue) → Sound s v → is_small_or_short v ≡ true
@@ -65,6 +69,7 @@ short_of s (bool b) h = refl
 short_of s (pair v w) h = refl
 short_of s (set vs) h = refl
 short_of s (map_of es) h = refl
+short_of s (value.tag n) h = refl
 short_of (seqs a n) (seq vs) h =
     let p = and_parts (nat_le (length (items vs)) n) (list_all (has_sort a) (items vs)) h.of_sort.has in
     let q = and_parts (nat_le (sort_depth a + 1) 8) (is_bounded a && nat_le n 65536) h.sort_allowed in
@@ -79,6 +84,7 @@ short_of (ints lo hi) (seq vs) h = let no' : false ≡ true = h.of_sort.has in c
 short_of (pairs a b) (seq vs) h = let no' : false ≡ true = h.of_sort.has in cc
 short_of (sets a) (seq vs) h = let no' : false ≡ true = h.of_sort.has in cc
 short_of (maps a b) (seq vs) h = let no' : false ≡ true = h.of_sort.has in cc
+short_of (enums ns) (seq vs) h = let no' : false ≡ true = h.of_sort.has in cc
 
 all_short : (ss : List PlainSort) (vs : List PlainValue) → list_all is_allowed ss ≡ true → AreOfSorts ss vs → list_all is_small_or_short vs ≡ true
 all_short [] [] q h = refl
@@ -109,6 +115,8 @@ least_sorted (seqs a n) p q = and_both (nat_le 0 n) true (zero_le n) refl
     zero_le : (n : ℕ) → nat_le 0 n ≡ true
     zero_le n = grind (arith, nat_tests)
 least_sorted (maps a b) p q = refl
+least_sorted (enums []) p q = cc
+least_sorted (enums (n ∷ ns)) p q = least_from-among n ns
 
 least_canonical : (a : PlainSort) → IsCanonical (least_value a)
 least_canonical never = tt
@@ -118,6 +126,7 @@ least_canonical (pairs a b) = (least_canonical a, least_canonical b)
 least_canonical (sets a) = (tt, tt)
 least_canonical (seqs a n) = tt
 least_canonical (maps a b) = (tt, tt)
+least_canonical (enums ns) = tt
 
 cast_sound : (a s : PlainSort) (ss : List PlainSort) (vs : List PlainValue) → cast_sort a ss ≡ Ok s → AreOfSorts ss vs → Sound s (cast_value a vs)
 cast_sound a s ss vs p h =
@@ -139,6 +148,12 @@ cast_sound a s ss vs p h =
               (by_sort v k (record { has = least_sorted a y.1 e; canonical = least_canonical a }) (has_sort a v) refl);
           sort_allowed = x.1;
         }
+
+-- a tag is of the sort of that name alone
+tag_sound : (n : List ℕ) (s : PlainSort) → allowed (enums (n ∷ [])) ≡ ok s → Sound s (value.tag n)
+tag_sound n s p =
+    let has_name : has_sort (enums (n ∷ [])) (value.tag n) ≡ true = least_from-among n [] in
+    subst (λ z. Sound z (value.tag n)) (ok_same (enums (n ∷ [])) s p) (record { of_sort = record { has = has_name; canonical = tt }; sort_allowed = refl })
 
 seq_evaluates : (o : SeqOp) (ss : List PlainSort) (vs : List PlainValue) (s : PlainSort) → seq_sort o ss ≡ Ok s → AreOfSorts ss vs → Evaluates s (seq_value o vs) (op_small (Seq o) vs)
 seq_evaluates Total ss vs s p h = record { sound = seq_sound Total ss vs s p h; stays = total_small ss vs s p h }
@@ -246,6 +261,7 @@ module _ (known : List PlainDef) (calls : Calls) (checks : Checks) (fit : CallsF
         itself : (n : ℤ) → n ≤ℤ n
         itself n = omega (arith, int_rules)
     evaluates (truth b) names env s p a h = record { sound = truth_sound b s p; stays = refl }
+    evaluates (tag n) names env s p a h = record { sound = tag_sound n s p; stays = refl }
     evaluates (app g ts) names env s p a h =
         let r = bind_ok (least_sorts known names ts) (head_sort known g (written ts)) s p in
         let k = all_evaluate ts names env r.0 r.1 a h in

@@ -4,7 +4,7 @@ use Rattle.std.specs.Prelude.{pos, negsuc, ◌-ℤ◌, ◌≤ℤ◌, ◌&&◌, �
 use Rattle.std.specs.Int.{int_min}
 use Rattle.std.proofs.lemmas.Int.{ints as int_rules, clamps}
 use Rattle.kid_value.specs.PlainValue.{PlainValue, int, set, items}
-use Rattle.kid_value.specs.PlainSort.{PlainSort, never, bools, ints, pairs, sets, seqs, maps, has_sort}
+use Rattle.kid_value.specs.PlainSort.{PlainSort, never, bools, ints, pairs, sets, seqs, maps, enums, has_sort}
 use Rattle.kid_value.specs.SortOrder.{join}
 use Rattle.kid_value.specs.Rows.Kinds.{natural, set_from}
 use Rattle.kid_value.specs.Rows.Word.{has_bit, word_of, bits_below, word_size, key_at, place_above, has_bit_at, lowest_or}
@@ -258,6 +258,7 @@ number_of_joined lo hi (pairs a b) e v p h = cc
 number_of_joined lo hi (sets a) e v p h = cc
 number_of_joined lo hi (seqs a n) e v p h = cc
 number_of_joined lo hi (maps a b) e v p h = cc
+number_of_joined lo hi (enums ns) e v p h = cc
 
 lowest_of_sort : (e : PlainSort) (lo d : ℤ) (is : List ℕ) → EachPlace (λ i. i < word_size) is → ((i : ℕ) → i < word_size → IsOfSort e (key_at lo i)) → IsOfSort e (int d) → IsOfSort e (int (lowest_or lo is d))
 lowest_of_sort e lo d [] h k l = l

@@ -2,7 +2,7 @@
 use Rattle.std.proofs.Common.{◌≡◌, ℤ, List, [], ◌∷◌, Option, Some, None, Ok, refl, sym, ap, ◌∙◌}
 use Rattle.kid_value.specs.PlainValue.{PlainValue, int}
 use Rattle.kid_value.specs.PlainSort.{PlainSort}
-use Rattle.kid_term.specs.PlainTerm.{PlainTerm, var, number, truth, app, bind, PlainTerms, no_term, term}
+use Rattle.kid_term.specs.PlainTerm.{PlainTerm, var, number, truth, tag, app, bind, PlainTerms, no_term, term}
 use Rattle.kid_term.specs.Eval.{Env, Calls, eval, evals}
 use Rattle.kid_term.specs.Contexts.{first_of}
 use Rattle.kid_term.specs.Sorted.{Fault, Sorted}
@@ -26,6 +26,7 @@ module _ (calls : Calls) (env : Env) where
   number_value (number m) n p = ap int (same_number m n p)
   number_value (var x) n p = cc
   number_value (truth b) n p = cc
+  number_value (tag m) n p = cc
   number_value (app g ts) n p = cc
   number_value (bind b x s t) n p = cc
 

@@ -1,6 +1,6 @@
 -- How deep the calls of definitions go.
 use Rattle.std.specs.Prelude.{ℕ, suc, max, nat_le, cond, List, [], ◌∷◌, ◌++◌}
-use Rattle.kid_term.specs.PlainTerm.{PlainHead, op, call, cast, PlainTerm, var, number, truth, app, bind, PlainTerms, no_term, term}
+use Rattle.kid_term.specs.PlainTerm.{PlainHead, op, call, cast, PlainTerm, var, number, truth, tag, app, bind, PlainTerms, no_term, term}
 use Rattle.kid_term.specs.Names.{same_name, PlainDef}
 
 -- definitions with the depth of each
@@ -23,6 +23,7 @@ abbrev mutual
   deepest_call ds (var x) = 0
   deepest_call ds (number n) = 0
   deepest_call ds (truth b) = 0
+  deepest_call ds (tag n) = 0
   deepest_call ds (app h ts) = max (head_depth ds h) (deepest_of ds ts)
   deepest_call ds (bind b x s t) = max (deepest_call ds s) (deepest_call ds t)
 

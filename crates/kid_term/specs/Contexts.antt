@@ -3,7 +3,7 @@ use Rattle.std.specs.Prelude.{◌≡◌, ℕ, zero, suc, true, false, List, [], 
 use Rattle.kid_value.specs.PlainValue.{PlainValue, bool}
 use Rattle.kid_value.specs.Rows.Parts.{truth_of, members_of}
 use Rattle.kid_value.specs.ValueSet.{is_member}
-use Rattle.kid_term.specs.PlainTerm.{PlainHead, op, PlainTerm, var, number, truth, app, bind, PlainTerms, no_term, term}
+use Rattle.kid_term.specs.PlainTerm.{PlainHead, op, PlainTerm, var, number, truth, tag, app, bind, PlainTerms, no_term, term}
 use Rattle.kid_term.specs.declared.operator.Op.TheVariants.{Logic}
 use Rattle.kid_term.specs.declared.operator.LogicOp.TheVariants.{And, Implies, If}
 use Rattle.kid_term.specs.Eval.{Env, Calls, eval, evals}
@@ -28,6 +28,7 @@ module _ (calls : Calls) where
     SameAt (var x) (i ∷ path) new env = Unit {0}
     SameAt (number n) (i ∷ path) new env = Unit {0}
     SameAt (truth b) (i ∷ path) new env = Unit {0}
+    SameAt (tag n) (i ∷ path) new env = Unit {0}
     SameAt (app h ts) (i ∷ path) new env = Guard h i (evals calls env ts) → SameAmong ts i path new env
     SameAt (bind b x s t) (zero ∷ path) new env = SameAt s path new env
     SameAt (bind b x s t) (suc zero ∷ path) new env = (v : PlainValue) → is_member v (members_of (eval calls env s)) ≡ true → SameAt t path new ((x, v) ∷ env)

@@ -1,6 +1,6 @@
 -- How much there is to evaluate: a call counts the body that it opens.
 use Rattle.std.specs.Prelude.{ℕ, ◌+◌, List, [], ◌∷◌, cond, length}
-use Rattle.kid_term.specs.PlainTerm.{PlainHead, op, call, cast, PlainTerm, var, number, truth, app, bind, PlainTerms, no_term, term}
+use Rattle.kid_term.specs.PlainTerm.{PlainHead, op, call, cast, PlainTerm, var, number, truth, tag, app, bind, PlainTerms, no_term, term}
 use Rattle.kid_term.specs.Names.{same_name, PlainDef}
 
 abbrev pub Costs : Type 0
@@ -20,6 +20,7 @@ abbrev mutual
   cost costs (var x) = 1
   cost costs (number n) = 1
   cost costs (truth b) = 1
+  cost costs (tag n) = 1
   cost costs (app h ts) = head_cost costs h + cost_all costs ts + 2
   cost costs (bind b x s t) = cost costs s + cost costs t + 1
 

@@ -1,13 +1,14 @@
 -- The value of a term.
 use Rattle.std.specs.Prelude.{ℕ, false, nat_eq, cond, List, [], ◌∷◌, map, filter, length}
 use Rattle.std.specs.List.{list_all, list_any}
+use Rattle.kid_value.specs.PlainValue as value
 use Rattle.kid_value.specs.PlainValue.{PlainValue, int, bool}
 use Rattle.kid_value.specs.PlainSort.{PlainSort, has_sort}
 use Rattle.kid_value.specs.ValueSet.{set_of}
 use Rattle.kid_value.specs.Rows.Parts.{truth_of, members_of, total}
 use Rattle.kid_value.specs.Rows.Kinds.{set_from}
 use Rattle.kid_value.specs.Least.{least_value}
-use Rattle.kid_term.specs.PlainTerm.{PlainHead, op, call, cast, PlainTerm, var, number, truth, app, bind, PlainTerms, no_term, term}
+use Rattle.kid_term.specs.PlainTerm.{PlainHead, op, call, cast, PlainTerm, var, number, truth, tag, app, bind, PlainTerms, no_term, term}
 use Rattle.kid_term.specs.Names.{same_name, Names, PlainDef}
 use Rattle.kid_term.specs.LogicRows.{logic_value}
 use Rattle.kid_term.specs.NumberRows.{number_value}
@@ -69,6 +70,7 @@ abbrev mutual
   eval calls env (var x) = value_at x env
   eval calls env (number n) = int n
   eval calls env (truth b) = bool b
+  eval calls env (tag n) = value.tag n
   eval calls env (app h ts) = head_value calls h (evals calls env ts)
   eval calls env (bind b x s t) = binder_value b (members_of (eval calls env s)) (λ v. eval calls ((x, v) ∷ env) t)
 

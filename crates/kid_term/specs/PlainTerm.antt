@@ -18,6 +18,7 @@ mutual
     var : List ℕ → PlainTerm
     number : ℤ → PlainTerm
     truth : Bool → PlainTerm
+    tag : List ℕ → PlainTerm
     app : PlainHead → PlainTerms → PlainTerm
     bind : Binder → List ℕ → PlainTerm → PlainTerm → PlainTerm
 
@@ -39,6 +40,7 @@ abbrev mutual
   depth (var x) = 1
   depth (number n) = 1
   depth (truth b) = 1
+  depth (tag n) = 1
   depth (app h ts) = depths ts + 1
   depth (bind b x s t) = max (depth s) (depth t) + 1
 
@@ -52,6 +54,7 @@ abbrev mutual
   node_count (var x) = 1
   node_count (number n) = 1
   node_count (truth b) = 1
+  node_count (tag n) = 1
   node_count (app h ts) = node_counts ts + 1
   node_count (bind b x s t) = node_count s + node_count t + 1
 

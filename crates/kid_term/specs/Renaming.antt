@@ -1,6 +1,6 @@
 -- A binder with another name, or why it may not have it.
 use Rattle.std.specs.Prelude.{◌≡◌, ℕ, Bool, false, ◌||◌, cond, List, Result, Ok, Err}
-use Rattle.kid_term.specs.PlainTerm.{PlainTerm, var, number, truth, app, bind, PlainTerms, no_term, term}
+use Rattle.kid_term.specs.PlainTerm.{PlainTerm, var, number, truth, tag, app, bind, PlainTerms, no_term, term}
 use Rattle.kid_term.specs.Names.{same_name}
 use Rattle.kid_term.specs.Substitution.{mentions, replaced}
 use Rattle.kid_term.specs.declared.rename.RenameFault.{RenameFault}
@@ -12,6 +12,7 @@ abbrev mutual
   binds x (var y) = false
   binds x (number n) = false
   binds x (truth b) = false
+  binds x (tag n) = false
   binds x (app h ts) = some_bind x ts
   binds x (bind b y s t) = same_name x y || binds x s || binds x t
 

@@ -5,7 +5,7 @@ use Rattle.kid_value.specs.PlainValue.{PlainValue, int, set, seq, items}
 use Rattle.kid_value.specs.SortLimits.{in_limits}
 use Rattle.kid_value.specs.Rows.Parts.{members_of}
 use Rattle.kid_value.specs.Rows.Sums.{sums_small}
-use Rattle.kid_term.specs.PlainTerm.{PlainHead, op, call, cast, PlainTerm, var, number, truth, app, bind, PlainTerms, no_term, term}
+use Rattle.kid_term.specs.PlainTerm.{PlainHead, op, call, cast, PlainTerm, var, number, truth, tag, app, bind, PlainTerms, no_term, term}
 use Rattle.kid_term.specs.Names.{same_name, PlainDef}
 use Rattle.kid_term.specs.Eval.{Env, Calls, value_at, head_value, eval, evals, bound, def_value, calls_of}
 use Rattle.kid_term.specs.declared.operator.Op.{Op}
@@ -62,6 +62,7 @@ abbrev mutual
   stays_small calls checks env (var x) = is_small (value_at x env)
   stays_small calls checks env (number n) = is_small (int n)
   stays_small calls checks env (truth b) = true
+  stays_small calls checks env (tag n) = true
   stays_small calls checks env (app h ts) =
       all_stay_small calls checks env ts && head_small checks h (evals calls env ts) && is_small (head_value calls h (evals calls env ts))
   stays_small calls checks env (bind b x s t) =

@@ -1,9 +1,9 @@
 -- The least sort of a term, or its first fault.
 use Rattle.std.specs.Prelude.{ℕ, Bool, true, false, ◌&&◌, nat_le, cond, List, [], ◌∷◌, Result, Ok, Err}
-use Rattle.kid_value.specs.PlainSort.{PlainSort, bools, ints, sets, has_never}
+use Rattle.kid_value.specs.PlainSort.{PlainSort, bools, ints, sets, enums, has_never}
 use Rattle.kid_value.specs.SortOrder.{is_subsort}
 use Rattle.kid_value.specs.SortCount.{count_of}
-use Rattle.kid_term.specs.PlainTerm.{PlainHead, op, call, cast, PlainTerm, var, number, truth, app, bind, PlainTerms, no_term, term, node_count, depth}
+use Rattle.kid_term.specs.PlainTerm.{PlainHead, op, call, cast, PlainTerm, var, number, truth, tag, app, bind, PlainTerms, no_term, term, node_count, depth}
 use Rattle.kid_term.specs.Names.{same_name, Names, is_named, PlainDef, latest_first}
 use Rattle.kid_term.specs.Sorted.{Fault, Size, TermDeep, Unknown, Kind, Bounds, Shadow, Sorted, ◌>>=◌, allowed, with_one, with_bool, with_set}
 use Rattle.kid_term.specs.LogicSorts.{logic_sort}
@@ -71,6 +71,7 @@ abbrev mutual
   least_sort known names (var x) = sort_at x names
   least_sort known names (number n) = allowed (ints n n)
   least_sort known names (truth b) = Ok bools
+  least_sort known names (tag n) = allowed (enums (n ∷ []))
   least_sort known names (app h ts) = least_sorts known names ts >>= head_sort known h (written ts)
   least_sort known names (bind b x s t) =
       least_sort known names s >>= λ set. with_set set (λ a.

@@ -1,6 +1,6 @@
 -- Free names, and a term in a name's place.
 use Rattle.std.specs.Prelude.{ℕ, Bool, false, not, ◌&&◌, ◌||◌, cond, List}
-use Rattle.kid_term.specs.PlainTerm.{PlainTerm, var, number, truth, app, bind, PlainTerms, no_term, term}
+use Rattle.kid_term.specs.PlainTerm.{PlainTerm, var, number, truth, tag, app, bind, PlainTerms, no_term, term}
 use Rattle.kid_term.specs.Names.{same_name}
 
 -- whether the name stands free in the term
@@ -9,6 +9,7 @@ abbrev mutual
   mentions x (var y) = same_name x y
   mentions x (number n) = false
   mentions x (truth b) = false
+  mentions x (tag n) = false
   mentions x (app h ts) = some_mentions x ts
   mentions x (bind b y s t) = mentions x s || (not (same_name x y) && mentions x t)
 
@@ -22,6 +23,7 @@ abbrev mutual
   replaced x new (var y) = cond (same_name x y) new (var y)
   replaced x new (number n) = number n
   replaced x new (truth b) = truth b
+  replaced x new (tag n) = tag n
   replaced x new (app h ts) = app h (replaced_in x new ts)
   replaced x new (bind b y s t) = bind b y (replaced x new s) (cond (same_name x y) t (replaced x new t))
 
@@ -35,6 +37,7 @@ abbrev mutual
   captures x new (var y) = false
   captures x new (number n) = false
   captures x new (truth b) = false
+  captures x new (tag n) = false
   captures x new (app h ts) = some_capture x new ts
   captures x new (bind b y s t) = captures x new s || (not (same_name x y) && ((mentions y new && mentions x t) || captures x new t))
 

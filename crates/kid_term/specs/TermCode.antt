@@ -8,7 +8,7 @@ use Rattle.kid_value.specs.SortCode.{coded_sort, left_of, right_of, mark}
 use Rattle.kid_term.specs.declared.operator.Op.{Op}
 use Rattle.kid_term.specs.contracts.operator.Op as contract_of_op
 use Rattle.kid_term.specs.contracts.operator.Binder as contract_of_binder
-use Rattle.kid_term.specs.PlainTerm.{PlainHead, op, call, cast, PlainTerm, var, number, truth, app, bind, PlainTerms, no_term, term, depths, term_row}
+use Rattle.kid_term.specs.PlainTerm.{PlainHead, op, call, cast, PlainTerm, var, number, truth, tag, app, bind, PlainTerms, no_term, term, depths, term_row}
 
 abbrev pub coded_name : Coded (List ℕ)
 coded_name = coded_list coded_ℕ
@@ -36,6 +36,7 @@ abbrev mutual
   term_code (var x) = gcons (mark 0) (coded_name.code x)
   term_code (number n) = gcons (mark 1) (coded_ℤ.code n)
   term_code (truth b) = gcons (mark 2) (coded_bool.code b)
+  term_code (tag n) = gcons (mark 5) (coded_name.code n)
   term_code (app h ts) = gcons (mark 3) (gcons (coded_head.code h) (term_codes ts))
   term_code (bind b x s t) = gcons (mark 4) (gcons (contract_of_binder.the_row.coded.code b) (gcons (coded_name.code x) (gcons (term_code s) (term_code t))))
 
@@ -48,6 +49,7 @@ mutual
   term_inj (var x) (var y) p = ap var (coded_name.inj x y (ap right_of p))
   term_inj (number m) (number n) p = ap number (coded_ℤ.inj m n (ap right_of p))
   term_inj (truth a) (truth b) p = ap truth (coded_bool.inj a b (ap right_of p))
+  term_inj (tag m) (tag n) p = ap tag (coded_name.inj m n (ap right_of p))
   term_inj (app h ts) (app g us) p =
       let e = coded_head.inj h g (ap (λ z. left_of (right_of z)) p) in
       let f = terms_inj ts us (ap (λ z. right_of (right_of z)) p) in

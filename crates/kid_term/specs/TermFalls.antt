@@ -4,7 +4,7 @@ use Rattle.std.proofs.Common.{arith}
 use denote.Param.Weighed.{most}
 use Rattle.kid_term.specs.PlainTerm.{depth, depths, term_row}
 use Rattle.kid_term.specs.TermView.{plain_term}
-use Rattle.kid_term.specs.declared.Literal.TheVariants.{Int, Bool}
+use Rattle.kid_term.specs.declared.Literal.TheVariants.{Int, Bool, Tag}
 use Rattle.kid_term.specs.declared.Term.{Term}
 use Rattle.kid_term.specs.declared.Term.TheVariants.{Var, Lit, App, Bind}
 use Rattle.kid_term.specs.declared.BoxedTerm.TheDeep.{deep-Term}
@@ -12,7 +12,8 @@ use Rattle.kid_term.specs.declared.BoxedTerm.TheDeep.{deep-Term}
 pub deep-le-depth : (t : Term) → deep-Term t ≤ depth (plain_term t)
 deep-le-depth (Var x) = omega arith
 deep-le-depth (Lit (Int n)) = omega arith
-deep-le-depth (Lit (Bool n)) = omega arith
+deep-le-depth (Lit (Bool b)) = omega arith
+deep-le-depth (Lit (Tag n)) = omega arith
 deep-le-depth (App h ts) = omega arith
 deep-le-depth (Bind b x s t) = omega arith
 

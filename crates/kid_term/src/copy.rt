@@ -1,8 +1,8 @@
 //! Copies of terms.
 ghost use Rattle.std.specs.Prelude.{◌≡◌, IfOk, map};
-ghost use Rattle.kid_term.specs.TermView.{plain_term, plain_head};
+ghost use Rattle.kid_term.specs.TermView.{plain_term, plain_head, plain_literal};
 
-use crate::{BoxedTerm, Head, Term, Terms};
+use crate::{BoxedTerm, Head, Literal, Term, Terms};
 use kid_value::Memory;
 use std::alloc::Global;
 
@@ -23,6 +23,23 @@ impl Head {
     }
 }
 
+impl Literal {
+    /// An equal literal.
+    ///
+    /// # Errors
+    ///
+    /// Fails where memory is wanting.
+    pub fn copy(&self, alloc: Global) -> Result<Literal, Memory>
+        ensures { IfOk result (λ l. plain_literal l ≡ plain_literal self.now) }
+    {
+        match self {
+            Literal::Int(n) => Ok(Literal::Int(*n)),
+            Literal::Bool(b) => Ok(Literal::Bool(*b)),
+            Literal::Tag(name) => Ok(Literal::Tag(name.copy(alloc)?)),
+        }
+    }
+}
+
 impl Term {
     /// An equal term.
     ///
@@ -35,7 +52,7 @@ impl Term {
     {
         match self {
             Term::Var(x) => Ok(Term::Var(x.copy(alloc)?)),
-            Term::Lit(l) => Ok(Term::Lit(*l)),
+            Term::Lit(l) => Ok(Term::Lit(l.copy(alloc)?)),
             Term::App(head, args) => {
                 let head = head.copy(alloc)?;
                 let items = copy_all(alloc, &args.items)?;

@@ -17,6 +17,7 @@ pub mod names;
 pub mod operator;
 pub mod path;
 mod place;
+mod quotation;
 mod refine_form;
 pub mod rename;
 mod size;
@@ -30,17 +31,19 @@ pub use definition::{Def, Defs};
 pub use equality::same;
 pub use operator::{Binder, LogicOp, MapOp, NumberOp, Op, PairOp, SeqOp, SetOp, WordOp};
 pub use path::Path;
+pub use quotation::quote;
 pub use refine_form::RefineForm;
 pub use rename::RenameFault;
 pub use spec::Spec;
 pub use substitute::SubstFault;
 pub use why::Why;
 
-/// A number or a truth value.
-#[derive(Clone, Copy, Debug, PartialEq, Eq)]
+/// A number, a truth value, or the name that is a tag.
+#[derive(Debug, Drop)]
 pub enum Literal {
     Int(i64),
     Bool(bool),
+    Tag(Text),
 }
 
 /// What is applied: an operator, a definition by its name, or a cast to a sort.

@@ -68,7 +68,7 @@ impl Term {
             } else {
                 Ok(Term::Var(y.copy(alloc)?))
             },
-            Term::Lit(l) => Ok(Term::Lit(*l)),
+            Term::Lit(l) => Ok(Term::Lit(l.copy(alloc)?)),
             Term::App(head, args) => {
                 let head = head.copy(alloc)?;
                 let items = all_replaced(alloc, &args.items, x, new)?;

@@ -29,7 +29,7 @@ fn compares(rt: &impl Abort, alloc: Global, rows: &[(&str, &str, bool)]) {
     }
 }
 
-const LEAVES: [(&str, &str, bool); 13] = [
+const LEAVES: [(&str, &str, bool); 17] = [
     ("x", "x", true),
     ("x", "y", false),
     ("3", "3", true),
@@ -43,6 +43,10 @@ const LEAVES: [(&str, &str, bool); 13] = [
     ("E", "E", true),
     ("E", "x", false),
     ("E", "!x", false),
+    ("'x", "'x", true),
+    ("'x", "'y", false),
+    ("'x", "x", false),
+    ("'x", "3", false),
 ];
 
 #[test]
@@ -138,9 +142,9 @@ fn copies(rt: &impl Abort, alloc: Global, terms: &[&str]) {
     }
 }
 
-const TERMS: [&str; 17] = [
+const TERMS: [&str; 18] = [
     "x", "7", "T", "F", "E", "!x", "#x", "<xy", "?pqx", "@fx", "$fxy", ":9x", "Ays<xy", "SysOxtT",
-    "Oxs<x3", "Ixs+xy", "Uxs:9x",
+    "Oxs<x3", "Ixs+xy", "Uxs:9x", "'x",
 ];
 
 #[test]

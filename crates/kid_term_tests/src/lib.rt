@@ -14,6 +14,10 @@ mod notation;
 #[cfg(test)]
 mod places;
 #[cfg(test)]
+mod quotes;
+#[cfg(test)]
 mod renames;
 #[cfg(test)]
 mod sizes;
+#[cfg(test)]
+mod values;

@@ -20,7 +20,7 @@ fn mentions(rt: &impl Abort, alloc: Global, rows: &[(&str, &str, bool)]) {
     }
 }
 
-const MENTIONED: [(&str, &str, bool); 20] = [
+const MENTIONED: [(&str, &str, bool); 22] = [
     ("x", "x", true),
     ("y", "x", false),
     ("x", "xx", false),
@@ -43,6 +43,9 @@ const MENTIONED: [(&str, &str, bool); 20] = [
     ("AxsAys<xy", "x", false),
     ("AysAxx<xy", "x", true),
     ("<Axs<xyx", "x", true),
+    // a tag is no name
+    ("'x", "x", false),
+    ("<'xx", "x", true),
 ];
 
 #[test]
@@ -67,7 +70,7 @@ fn binds(rt: &impl Abort, alloc: Global, rows: &[(&str, &str, bool)]) {
     }
 }
 
-const BOUND: [(&str, &str, bool); 13] = [
+const BOUND: [(&str, &str, bool); 14] = [
     ("x", "x", false),
     ("3", "x", false),
     ("E", "x", false),
@@ -82,6 +85,7 @@ const BOUND: [(&str, &str, bool); 13] = [
     ("<Axsya", "x", true),
     ("<aAxsy", "x", true),
     ("?pqSxsy", "x", true),
+    ("'x", "x", false),
 ];
 
 #[test]
@@ -116,7 +120,7 @@ fn substitutes(rt: &impl Abort, alloc: Global, rows: &[(&str, &str, &str, &str)]
     }
 }
 
-const SUBSTITUTED: [(&str, &str, &str, &str); 12] = [
+const SUBSTITUTED: [(&str, &str, &str, &str); 14] = [
     ("x", "x", "z", "z"),
     ("y", "x", "z", "y"),
     ("3", "x", "z", "3"),
@@ -130,6 +134,8 @@ const SUBSTITUTED: [(&str, &str, &str, &str); 12] = [
     ("@fx", "x", "z", "@fz"),
     ("@xx", "x", "z", "@xz"),
     (":9x", "x", "3", ":93"),
+    ("'x", "x", "z", "'x"),
+    ("<'xx", "x", "'y", "<'x'y"),
 ];
 
 #[test]

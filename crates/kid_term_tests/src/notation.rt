@@ -1,13 +1,16 @@
 //! Terms from short texts. A character is a head, and what it takes follows it:
 //!
-//! - `x` and each other small letter: a name; `7` and each other digit: a number; `T` and `F`: the truth values; `E`: `(set)`;
+//! - `x` and each other small letter: a name; `7` and each other digit: a number; `T` and `F`: the truth values; `'x`: the tag of
+//!   that name; `E`: `(set)`;
+//! - `,ab`: `(pair a b)`; `&ab`: `(set a b)`; `;ab`: `(seq a b)`; `M`: `(map)`; `=abc`: `(put a b c)`;
 //! - `!a`: `(not a)`; `#a`: `(wcard a)`; `<ab`: `(le a b)`; `+ab`: `(add a b)`; `?abc`: `(if a b c)`;
 //! - `@fa`: the call `(f a)`; `$fab`: `(f a b)`; `:9a`: the cast of `a` to `(int 0 9)`;
 //! - `Axsb`, `Sxsb`, `Oxsb`, `Ixsb`, `Uxsb`: the binders all, some, setof, image and sumof of `x` over `s` with the body `b`.
 //!
 //! `None` is want of memory, or a text that is no term.
 use kid_term::{
-    Binder, BoxedTerm, Head, Literal, LogicOp, NumberOp, Op, Path, SetOp, Term, Terms, WordOp, same,
+    Binder, BoxedTerm, Head, Literal, LogicOp, MapOp, NumberOp, Op, PairOp, Path, SeqOp, SetOp,
+    Term, Terms, WordOp, same,
 };
 use kid_value::{Sort, Text};
 use std::alloc::Global;
@@ -107,6 +110,23 @@ fn binding(alloc: Global, pile: &mut Vec<Term>, binder: Binder) -> Option<Term> 
     bound(binder, name, set, boxed(alloc, pile.pop()))
 }
 
+fn tag(name: Option<Text>) -> Option<Term> {
+    Some(Term::Lit(Literal::Tag(name?)))
+}
+
+// what makes a value of its parts, or a number
+fn composed(alloc: Global, pile: &mut Vec<Term>, head: u8) -> Option<Term> {
+    match head {
+        b'\'' => tag(name_of(pile.pop())),
+        b',' => operation(alloc, pile, Op::Pair(PairOp::Pair), 2),
+        b'&' => operation(alloc, pile, Op::Set(SetOp::Set), 2),
+        b';' => operation(alloc, pile, Op::Seq(SeqOp::Seq), 2),
+        b'M' => operation(alloc, pile, Op::Map(MapOp::Map), 0),
+        b'=' => operation(alloc, pile, Op::Map(MapOp::Put), 3),
+        digit => number(digit),
+    }
+}
+
 fn headed(alloc: Global, pile: &mut Vec<Term>, head: u8) -> Option<Term> {
     match head {
         b'E' => operation(alloc, pile, Op::Set(SetOp::Set), 0),
@@ -123,7 +143,7 @@ fn headed(alloc: Global, pile: &mut Vec<Term>, head: u8) -> Option<Term> {
         b'O' => binding(alloc, pile, Binder::SetOf),
         b'I' => binding(alloc, pile, Binder::Image),
         b'U' => binding(alloc, pile, Binder::SumOf),
-        digit => number(digit),
+        head => composed(alloc, pile, head),
     }
 }
 

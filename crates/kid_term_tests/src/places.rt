@@ -23,7 +23,7 @@ fn finds(rt: &impl Abort, alloc: Global, rows: &[(&str, &[u32], Option<&str>)]) 
     }
 }
 
-const FOUND: [(&str, &[u32], Option<&str>); 20] = [
+const FOUND: [(&str, &[u32], Option<&str>); 21] = [
     ("x", &[], Some("x")),
     ("<xy", &[], Some("<xy")),
     ("<xy", &[0], Some("x")),
@@ -45,6 +45,7 @@ const FOUND: [(&str, &[u32], Option<&str>); 20] = [
     ("Ays<xy", &[2], None),
     ("Ays<xy", &[1, 2], None),
     ("Ays<xy", &[0, 0], None),
+    ("'x", &[0], None),
 ];
 
 #[test]
@@ -115,7 +116,7 @@ fn gives_back(rt: &impl Abort, alloc: Global, rows: &[(&str, &[u32], &str)]) {
     }
 }
 
-const GIVEN_BACK: [(&str, &[u32], &str); 10] = [
+const GIVEN_BACK: [(&str, &[u32], &str); 11] = [
     ("Ays<xy", &[1, 2], "z"),
     ("Ays<xy", &[2], "z"),
     ("Ays<xy", &[0, 0], "z"),
@@ -126,6 +127,7 @@ const GIVEN_BACK: [(&str, &[u32], &str); 10] = [
     ("<xy", &[2], "+ab"),
     ("<xy", &[1, 0], "+ab"),
     ("<xy", &[4294967295], "+ab"),
+    ("'x", &[0], "z"),
 ];
 
 #[test]

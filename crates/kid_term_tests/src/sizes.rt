@@ -21,7 +21,7 @@ fn measures(rt: &impl Abort, alloc: Global, rows: &[(&str, u64, u64)]) {
     }
 }
 
-const MEASURED: [(&str, u64, u64); 14] = [
+const MEASURED: [(&str, u64, u64); 16] = [
     ("x", 1, 1),
     ("3", 1, 1),
     ("T", 1, 1),
@@ -36,6 +36,8 @@ const MEASURED: [(&str, u64, u64); 14] = [
     ("Ays<xy", 5, 3),
     ("AyOxsTy", 5, 3),
     ("AyOxsT!!y", 7, 4),
+    ("'x", 1, 1),
+    ("!'x", 2, 2),
 ];
 
 #[test]

@@ -5,7 +5,7 @@ use Rattle.std.specs.declared.cmp.Ordering.TheVariants.{Less, Equal, Greater}
 use Rattle.kid_value.specs.Canonical.{IsCanonical, AreCanonical, EntriesAreCanonical, is_less, are_after, is_ascending, is_canonical, are_canonical, entries_are_canonical}
 use Rattle.kid_value.specs.InSort.{in_sort}
 use Rattle.kid_value.specs.PlainSort.{PlainSort, has_sort}
-use Rattle.kid_value.specs.PlainValue.{PlainValue, int, bool, pair, set, seq, map_of, PlainValues, none, more, PlainEntries, no_entry, entry, items, entries}
+use Rattle.kid_value.specs.PlainValue.{PlainValue, int, bool, pair, set, seq, map_of, tag, PlainValues, none, more, PlainEntries, no_entry, entry, items, entries}
 use Rattle.kid_value.specs.ValueMap.{keys}
 use Rattle.kid_value.specs.ValueOrder.{value_cmp}
 use Rattle.kid_value.specs.ValueSet.{AllAfter, Ascends}
@@ -26,6 +26,7 @@ mutual
   is_canonical-is (pair a b) c = and_both (is_canonical a) (is_canonical b) (is_canonical-is a c.0) (is_canonical-is b c.1)
   is_canonical-is (set vs) c = and_both (is_ascending (items vs)) (are_canonical vs) (is_ascending-is (items vs) c.0) (are_canonical-is vs c.1)
   is_canonical-is (seq vs) c = are_canonical-is vs c
+  is_canonical-is (tag n) c = refl
   is_canonical-is (map_of es) c = and_both (is_ascending (keys (entries es))) (entries_are_canonical es) (is_ascending-is (keys (entries es)) c.0) (entries_are_canonical-is es c.1)
 
   pub are_canonical-is : (vs : PlainValues) → AreCanonical vs → are_canonical vs ≡ true
@@ -57,6 +58,7 @@ mutual
   IsCanonical-test (pair a b) p = let r = and_parts (is_canonical a) (is_canonical b) p in (IsCanonical-test a r.0, IsCanonical-test b r.1)
   IsCanonical-test (set vs) p = let r = and_parts (is_ascending (items vs)) (are_canonical vs) p in (Ascends-test (items vs) r.0, AreCanonical-test vs r.1)
   IsCanonical-test (seq vs) p = AreCanonical-test vs p
+  IsCanonical-test (tag n) p = tt
   IsCanonical-test (map_of es) p = let r = and_parts (is_ascending (keys (entries es))) (entries_are_canonical es) p in (Ascends-test (keys (entries es)) r.0, EntriesAreCanonical-test es r.1)
 
   pub AreCanonical-test : (vs : PlainValues) → are_canonical vs ≡ true → AreCanonical vs

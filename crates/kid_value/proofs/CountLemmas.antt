@@ -6,7 +6,7 @@ use Rattle.std.proofs.lemmas.Bool.Decides.{nat_tests}
 use Rattle.std.proofs.lemmas.Nat.{mul-le}
 use Rattle.std.proofs.lemmas.Grind.{pow_more}
 use Rattle.std.proofs.Math.Nat.{pow-suc, pow-zero, mul-zero, zero-mul, mul_comm, le-mul_of_pos_right, one-le-pow, pow-le-pow_left, pow-le-pow_right}
-use Rattle.kid_value.specs.PlainSort.{PlainSort, never, bools, ints, pairs, sets, seqs, maps}
+use Rattle.kid_value.specs.PlainSort.{PlainSort, never, bools, ints, pairs, sets, seqs, maps, enums}
 use Rattle.kid_value.specs.SortCount.{capped, capped_power, capped_sequences, sequence_count, count_of}
 use Rattle.kid_value.specs.ValueCount.{value_count}
 
@@ -131,3 +131,4 @@ count_of-counts (pairs a b) = (λ i. capped (count_of-counts a i * count_of-coun
 count_of-counts (sets a) = ap (capped_power 2) (count_of-counts a) ∙ capped_power-is 1 (value_count a)
 count_of-counts (seqs a n) = ap (λ z. capped_sequences z n) (count_of-counts a) ∙ capped_sequences-is (capped (value_count a)) n ∙ capped-sequence_count (value_count a) n
 count_of-counts (maps a b) = (λ i. capped_power (count_of-counts b i + 1) (count_of-counts a i)) ∙ capped_power-is (value_count b) (value_count a)
+count_of-counts (enums ns) = refl

@@ -1,15 +1,17 @@
 -- The join of two sorts is their least upper bound, and there is none where no sort is above both.
-use Rattle.std.proofs.Common.{◌≡◌, ℕ, ◌<◌, ℤ, true, Option, Some, None, Result, Ok, Err, IfOk, subst, refl, sym, arith}
+use Rattle.std.proofs.Common.{◌≡◌, ℕ, ◌<◌, ℤ, true, List, Option, Some, None, Result, Ok, Err, IfOk, subst, refl, sym, arith}
 use Rattle.std.specs.Option.{option_map}
 use Rattle.std.specs.Prelude.{int_le, nat_le, max}
 use Rattle.std.specs.Int.{int_min, int_max}
 use Rattle.std.proofs.lemmas.Int.{ints as int_rules}
 use Rattle.std.proofs.lemmas.Bool.Decides.{nat_tests}
 use Rattle.kid_value.specs.Join.{IsJoin}
-use Rattle.kid_value.specs.PlainSort.{PlainSort, never, bools, ints, pairs, sets, seqs, maps}
+use Rattle.kid_value.specs.NameSet.{names_union}
+use Rattle.kid_value.specs.PlainSort.{PlainSort, never, bools, ints, pairs, sets, seqs, maps, enums}
 use Rattle.kid_value.specs.SortOrder.{is_subsort, join, both}
 use Rattle.kid_value.specs.SortView.{plain_sort}
 use Rattle.kid_value.specs.declared.sort.Sort.{Sort}
+use Rattle.kid_value.proofs.NameLemmas.{are_among-itself, union-first, union-second, union-below}
 use Rattle.kid_value.proofs.SortLemmas.{and_parts, and_both, int_le-itself, int_le-min_left, int_le-min_right, int_le-max_left, int_le-max_right}
 
 nat_le-itself : (n : ℕ) → nat_le n n ≡ true
@@ -39,6 +41,7 @@ is_subsort-itself (pairs a b) = and_both _ _ (is_subsort-itself a) (is_subsort-i
 is_subsort-itself (sets a) = is_subsort-itself a
 is_subsort-itself (seqs a n) = and_both _ _ (is_subsort-itself a) (nat_le-itself n)
 is_subsort-itself (maps a b) = and_both _ _ (is_subsort-itself a) (is_subsort-itself b)
+is_subsort-itself (enums ns) = are_among-itself ns
 
 abbrev shape : PlainSort → ℕ
 shape never = 0
@@ -48,6 +51,7 @@ shape (pairs a b) = 3
 shape (sets a) = 4
 shape (seqs a n) = 5
 shape (maps a b) = 6
+shape (enums ns) = 7
 
 -- what is above a sort other than never has its shape
 same_shape : (a t : PlainSort) → is_subsort a t ≡ true → 0 < shape a → shape a ≡ shape t
@@ -58,6 +62,7 @@ same_shape (pairs a b) (pairs c d) p h = refl
 same_shape (sets a) (sets c) p h = refl
 same_shape (seqs a n) (seqs c m) p h = refl
 same_shape (maps a b) (maps c d) p h = refl
+same_shape (enums ms) (enums ns) p h = refl
 same_shape a t p h = cc
 
 ints_below : (lo hi low high : ℤ) (t : PlainSort) → is_subsort (ints lo hi) t ≡ true → is_subsort (ints low high) t ≡ true → is_subsort (ints (int_min lo low) (int_max hi high)) t ≡ true
@@ -135,6 +140,10 @@ seqs_joined a c n m None f = nothing
     nothing (seqs u k) p q = f u (and_parts (is_subsort a u) (nat_le n k) p).0 (and_parts (is_subsort c u) (nat_le m k) q).0
     nothing t p q = cc
 
+enums_below : (ms ns : List (List ℕ)) (t : PlainSort) → is_subsort (enums ms) t ≡ true → is_subsort (enums ns) t ≡ true → is_subsort (enums (names_union ms ns)) t ≡ true
+enums_below ms ns (enums ts) p q = union-below ms ns ts p q
+enums_below ms ns t p q = cc
+
 pub join-is : (a b : PlainSort) → IsJoin a b (join a b)
 join-is never b = (refl, is_subsort-itself b, λ t p q. q)
 join-is bools never = (refl, refl, λ t p q. p)
@@ -143,6 +152,7 @@ join-is (pairs a b) never = (is_subsort-itself (pairs a b), refl, λ t p q. p)
 join-is (sets a) never = (is_subsort-itself (sets a), refl, λ t p q. p)
 join-is (seqs a n) never = (is_subsort-itself (seqs a n), refl, λ t p q. p)
 join-is (maps a b) never = (is_subsort-itself (maps a b), refl, λ t p q. p)
+join-is (enums ns) never = (are_among-itself ns, refl, λ t p q. p)
 join-is bools bools = (refl, refl, λ t p q. p)
 join-is (ints lo hi) (ints low high) =
     (and_both _ _ (int_le-min_left lo low) (int_le-max_left hi high), and_both _ _ (int_le-min_right lo low) (int_le-max_right hi high), ints_below lo hi low high)
@@ -150,6 +160,7 @@ join-is (pairs a b) (pairs c d) = pairs_joined a b c d (join a c) (join b d) (jo
 join-is (sets a) (sets c) = sets_joined a c (join a c) (join-is a c)
 join-is (seqs a n) (seqs c m) = seqs_joined a c n m (join a c) (join-is a c)
 join-is (maps a b) (maps c d) = maps_joined a b c d (join a c) (join b d) (join-is a c) (join-is b d)
+join-is (enums ms) (enums ns) = (union-first ms ns, union-second ms ns, enums_below ms ns)
 join-is a b = λ t p q. let e : shape a ≡ shape t = same_shape a t p (omega arith) in let f : shape b ≡ shape t = same_shape b t q (omega arith) in omega arith
 
 pub joined_ok : {E : Type 0} (a b : PlainSort) (r : Result (Option Sort) E) → IfOk r (λ o. option_map plain_sort o ≡ join a b) → IfOk r (λ o. IsJoin a b (option_map plain_sort o))

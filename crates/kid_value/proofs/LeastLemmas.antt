@@ -1,14 +1,15 @@
 -- The least value of a sort is its least.
-use Rattle.std.proofs.Common.{◌≡◌, ℕ, ℤ, true, false, Ordering, refl, arith}
+use Rattle.std.proofs.Common.{◌≡◌, ℕ, ℤ, true, false, [], ◌∷◌, Ordering, refl, arith}
 use Rattle.std.specs.declared.cmp.Ordering.TheVariants.{Less, Equal, Greater}
 use Rattle.std.specs.Ordering.{ordering_then, int_cmp}
 use Rattle.std.specs.Prelude.{int_le, nat_le}
 use Rattle.std.proofs.lemmas.Int.{ints as int_rules}
 use Rattle.std.proofs.lemmas.Bool.Decides.{nat_tests}
-use Rattle.kid_value.specs.PlainValue.{int, bool, pair, set, seq, map_of, none, more, no_entry, entry}
-use Rattle.kid_value.specs.PlainSort.{PlainSort, bools, ints, pairs, sets, seqs, maps, has_sort}
+use Rattle.kid_value.specs.PlainValue.{int, bool, pair, set, seq, map_of, tag, none, more, no_entry, entry}
+use Rattle.kid_value.specs.PlainSort.{PlainSort, bools, ints, pairs, sets, seqs, maps, enums, has_sort}
 use Rattle.kid_value.specs.ValueOrder.{value_cmp}
 use Rattle.kid_value.specs.Least.{least_value, IsLeastOf}
+use Rattle.kid_value.proofs.NameLemmas.{least_from-among, least_from-least}
 use Rattle.kid_value.proofs.SortLemmas.{and_parts, and_both, int_le-itself, int_le-trans}
 
 not_greater : (m n : ℤ) → int_le m n ≡ true → int_cmp m n ≡ Greater → ⊥
@@ -39,4 +40,6 @@ least_value_least (seqs a n) (seq none) h = (and_both _ _ (zero_le n) refl, λ p
 least_value_least (seqs a n) (seq (more w ws)) h = (and_both _ _ (zero_le n) refl, λ p. cc)
 least_value_least (maps a b) (map_of no_entry) h = (refl, λ p. cc)
 least_value_least (maps a b) (map_of (entry k v es)) h = (refl, λ p. cc)
+least_value_least (enums (n ∷ ns)) (tag x) h = (least_from-among n ns, least_from-least n ns x h)
+least_value_least (enums []) (tag x) h = cc
 least_value_least s w h = cc

@@ -7,6 +7,7 @@ pub mod FoundLemmas
 pub mod JoinLemmas
 pub mod LeastLemmas
 pub mod MapOrderLaws
+pub mod NameLemmas
 pub mod PlaceLemmas
 pub mod PutLemmas
 pub mod RowCanonical

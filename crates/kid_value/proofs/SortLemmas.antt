@@ -6,13 +6,14 @@ use Rattle.std.specs.List.{list_all}
 use Rattle.std.specs.Int.{int_min, int_max}
 use Rattle.std.proofs.lemmas.Int.{ints as int_rules}
 use Rattle.std.proofs.lemmas.Bool.Decides.{nat_tests}
-use Rattle.kid_value.specs.PlainValue.{PlainValue, int, pair, set, seq, map_of, items, entries}
+use Rattle.kid_value.specs.PlainValue.{PlainValue, int, pair, set, seq, map_of, tag, items, entries}
 use Rattle.kid_value.specs.ValueOrder.{value_cmp}
 use Rattle.kid_value.specs.ValueSet.{put, put_by, union}
 use Rattle.kid_value.specs.Rows.Parts.{members_of}
-use Rattle.kid_value.specs.PlainSort.{PlainSort, never, bools, ints, pairs, sets, seqs, maps, has_sort}
+use Rattle.kid_value.specs.PlainSort.{PlainSort, never, bools, ints, pairs, sets, seqs, maps, enums, has_sort}
 use Rattle.kid_value.specs.SortOrder.{is_subsort}
 use Rattle.kid_value.specs.SortLimits.{sort_depth}
+use Rattle.kid_value.proofs.NameLemmas.{are_among-each}
 
 pub and_parts : (b c : Bool) → (b && c) ≡ true → (b ≡ true) × (c ≡ true)
 and_parts true c p = (refl, p)
@@ -52,6 +53,7 @@ has_sort-subsort (maps a b) (maps c d) (map_of es) p h =
     list_all-weaker (λ (e : PlainValue × PlainValue). has_sort a e.0 && has_sort b e.1) (λ e. has_sort c e.0 && has_sort d e.1)
     (λ e g. let r = and_parts (has_sort a e.0) (has_sort b e.1) g in and_both (has_sort c e.0) (has_sort d e.1) (has_sort-subsort a c e.0 q.0 r.0) (has_sort-subsort b d e.1 q.1 r.1))
     (entries es) h
+has_sort-subsort (enums ms) (enums ns) (tag x) p h = are_among-each ms ns p x h
 has_sort-subsort a b v p h = cc
 
 pub int_le-itself : (a : ℤ) → int_le a a ≡ true
@@ -113,3 +115,4 @@ never_flat (pairs a b) = grind (arith, nat_tests)
 never_flat (sets a) = grind (arith, nat_tests)
 never_flat (seqs a n) = grind (arith, nat_tests)
 never_flat (maps a b) = grind (arith, nat_tests)
+never_flat (enums ns) = refl

@@ -4,13 +4,15 @@ use Rattle.std.proofs.Common.{◌≡◌, ℕ, ℤ, pos, negsuc, Bool, true, fals
 use Rattle.std.specs.Prelude.{not, int_lt}
 use Rattle.std.proofs.Math.IntN.{neg_ℤ}
 use Rattle.std.specs.declared.cmp.Ordering.TheVariants.{Less, Equal, Greater}
-use Rattle.std.specs.Ordering.{ordering_then, ordering_reverse, int_cmp, bool_cmp, on}
+use Rattle.std.specs.Ordering.{ordering_then, ordering_reverse, nat_cmp, int_cmp, bool_cmp, on}
 use Rattle.std.specs.Cmp.{IsTotalOrder}
 use Rattle.std.specs.Cmp.Lexicographic.{slice_cmp}
 use Rattle.std.proofs.lemmas.Cmp.{on_total, lists_total, int_cmp_total, int_ranked, tied_itself}
 use Rattle.std.proofs.lemmas.Bool.Decides.{nat_tests}
-use Rattle.kid_value.specs.PlainValue.{PlainValue, int, bool, pair, set, seq, map_of, PlainValues, none, more, PlainEntries, no_entry, entry}
+use Rattle.kid_value.specs.NameSet.{name_cmp}
+use Rattle.kid_value.specs.PlainValue.{PlainValue, int, bool, pair, set, seq, map_of, tag, PlainValues, none, more, PlainEntries, no_entry, entry}
 use Rattle.kid_value.specs.ValueOrder.{value_cmp, seq_cmp, set_cmp, map_cmp}
+use Rattle.kid_value.proofs.NameLemmas.{name_cmp-equal}
 
 -- a number, or its opposite
 abbrev signed : Bool → ℤ → ℤ
@@ -25,6 +27,10 @@ turned true o = ordering_reverse o
 abbrev bit : Bool → ℤ
 bit b = cond b (pos 1) (pos 0)
 
+abbrev name_key : List ℕ → Bool → List ℤ → List ℤ
+name_key [] s r = signed s (pos 0) ∷ r
+name_key (n ∷ ns) s r = signed s (pos 1) ∷ signed s (pos n) ∷ name_key ns s r
+
 abbrev mutual
   key : PlainValue → Bool → List ℤ → List ℤ
   key (int n) s r = signed s (pos 0) ∷ signed s n ∷ r
@@ -33,6 +39,7 @@ abbrev mutual
   key (set vs) s r = signed s (pos 3) ∷ set_key vs s r
   key (seq vs) s r = signed s (pos 4) ∷ seq_key vs s r
   key (map_of m) s r = signed s (pos 5) ∷ map_key m s r
+  key (tag n) s r = signed s (pos 6) ∷ name_key n s r
 
   seq_key : PlainValues → Bool → List ℤ → List ℤ
   seq_key none s r = signed s (pos 0) ∷ r
@@ -97,6 +104,21 @@ bits-cmp true true true z = refl
 same_tag : (s : Bool) (n : ℕ) (z : Ordering) → ordering_then (int_cmp (signed s (pos n)) (signed s (pos n))) z ≡ z
 same_tag s n z = ap (λ o. ordering_then o z) (tied_itself int_cmp_total (signed s (pos n)))
 
+pos-cmp : (m n : ℕ) → int_cmp (pos m) (pos n) ≡ nat_cmp m n
+pos-cmp m n = grind (arith, nat_tests)
+
+bytes-cmp : (s : Bool) (m n : ℕ) (z : Ordering) → ordering_then (int_cmp (signed s (pos m)) (signed s (pos n))) z ≡ ordering_then (turned s (nat_cmp m n)) z
+bytes-cmp s m n z = signed-cmp s (pos m) (pos n) z ∙ ap (λ o. ordering_then (turned s o) z) (pos-cmp m n)
+
+cmp_keys-name_key : (m n : List ℕ) (s : Bool) (r t : List ℤ) → cmp_keys (name_key m s r) (name_key n s t) ≡ ordering_then (turned s (name_cmp m n)) (cmp_keys r t)
+cmp_keys-name_key (x ∷ m) (y ∷ n) s r t = same_tag s 1 _ ∙ bytes-cmp s x y _ ∙ ap (ordering_then (turned s (nat_cmp x y))) (cmp_keys-name_key m n s r t) ∙ then-turned s (nat_cmp x y) (name_cmp m n) _
+cmp_keys-name_key [] [] false r t = refl
+cmp_keys-name_key [] [] true r t = refl
+cmp_keys-name_key [] (y ∷ n) false r t = refl
+cmp_keys-name_key [] (y ∷ n) true r t = refl
+cmp_keys-name_key (x ∷ m) [] false r t = refl
+cmp_keys-name_key (x ∷ m) [] true r t = refl
+
 mutual
   cmp_keys-key : (v w : PlainValue) (s : Bool) (r t : List ℤ) → cmp_keys (key v s r) (key w s t) ≡ ordering_then (turned s (value_cmp v w)) (cmp_keys r t)
   cmp_keys-key (int m) (int n) s r t = same_tag s 0 _ ∙ signed-cmp s m n _
@@ -105,6 +127,7 @@ mutual
   cmp_keys-key (set vs) (set ws) s r t = same_tag s 3 _ ∙ cmp_keys-set_key vs ws s r t
   cmp_keys-key (seq vs) (seq ws) s r t = same_tag s 4 _ ∙ cmp_keys-seq_key vs ws s r t
   cmp_keys-key (map_of m) (map_of n) s r t = same_tag s 5 _ ∙ cmp_keys-map_key m n s r t
+  cmp_keys-key (tag m) (tag n) s r t = same_tag s 6 _ ∙ cmp_keys-name_key m n s r t
   cmp_keys-key v w false r t = refl
   cmp_keys-key v w true r t = refl
 
@@ -187,6 +210,7 @@ mutual
   value_cmp-equal (set vs) (set ws) p = ap set (set_cmp-equal vs ws p)
   value_cmp-equal (seq vs) (seq ws) p = ap seq (seq_cmp-equal vs ws p)
   value_cmp-equal (map_of m) (map_of n) p = ap map_of (map_cmp-equal m n p)
+  value_cmp-equal (tag m) (tag n) p = ap tag (name_cmp-equal m n p)
   value_cmp-equal v w p = cc
 
   pub seq_cmp-equal : (v w : PlainValues) → seq_cmp v w ≡ Equal → v ≡ w

@@ -2,7 +2,7 @@
 use Rattle.std.specs.Prelude.{Bool, true, false, ◌&&◌, List, [], ◌∷◌}
 use Rattle.std.specs.declared.cmp.Ordering.{Ordering}
 use Rattle.std.specs.declared.cmp.Ordering.TheVariants.{Less, Equal, Greater}
-use Rattle.kid_value.specs.PlainValue.{PlainValue, int, bool, pair, set, seq, map_of, PlainValues, none, more, PlainEntries, no_entry, entry, items, entries}
+use Rattle.kid_value.specs.PlainValue.{PlainValue, int, bool, pair, set, seq, map_of, tag, PlainValues, none, more, PlainEntries, no_entry, entry, items, entries}
 use Rattle.kid_value.specs.ValueMap.{keys}
 use Rattle.kid_value.specs.ValueOrder.{value_cmp}
 use Rattle.kid_value.specs.ValueSet.{Ascends}
@@ -15,6 +15,7 @@ abbrev mutual
   IsCanonical (set vs) = Ascends (items vs) × AreCanonical vs
   IsCanonical (seq vs) = AreCanonical vs
   IsCanonical (map_of es) = Ascends (keys (entries es)) × EntriesAreCanonical es
+  IsCanonical (tag n) = Unit {0}
 
   pub AreCanonical : PlainValues → Type 0
   AreCanonical none = Unit {0}
@@ -46,6 +47,7 @@ abbrev mutual
   is_canonical (set vs) = is_ascending (items vs) && are_canonical vs
   is_canonical (seq vs) = are_canonical vs
   is_canonical (map_of es) = is_ascending (keys (entries es)) && entries_are_canonical es
+  is_canonical (tag n) = true
 
   pub are_canonical : PlainValues → Bool
   are_canonical none = true

@@ -2,7 +2,7 @@
 use Rattle.std.specs.Prelude.{ℕ, ◌+◌, ℤ, Bool, List, [], ◌∷◌, max}
 
 mutual
-  -- a value, with the members of a set and the keys of a map in their order
+  -- a value, with the members of a set and the keys of a map in their order; a tag is a name, told by its bytes
   pub data PlainValue : Type 0 where
     int : ℤ → PlainValue
     bool : Bool → PlainValue
@@ -10,6 +10,7 @@ mutual
     set : PlainValues → PlainValue
     seq : PlainValues → PlainValue
     map_of : PlainEntries → PlainValue
+    tag : List ℕ → PlainValue
 
   pub data PlainValues : Type 0 where
     none : PlainValues
@@ -44,6 +45,7 @@ abbrev mutual
   height (set vs) = heights vs + 1
   height (seq vs) = heights vs + 1
   height (map_of es) = entry_heights es + 1
+  height (tag n) = 1
 
   pub heights : PlainValues → ℕ
   heights none = 0

@@ -1,7 +1,7 @@
 -- How many values a sort has, counted up to a cap.
-use Rattle.std.specs.Prelude.{ℕ, zero, suc, ◌+◌, ◌*◌, ◌^◌, ℤ, nat_le, int_le, min, cond}
+use Rattle.std.specs.Prelude.{ℕ, zero, suc, ◌+◌, ◌*◌, ◌^◌, ℤ, nat_le, int_le, min, cond, length}
 use Rattle.std.specs.Int.{int_gap}
-use Rattle.kid_value.specs.PlainSort.{PlainSort, never, bools, ints, pairs, sets, seqs, maps}
+use Rattle.kid_value.specs.PlainSort.{PlainSort, never, bools, ints, pairs, sets, seqs, maps, enums}
 
 -- a count, or 65537 where it is greater
 abbrev pub capped : ℕ → ℕ
@@ -33,3 +33,4 @@ count_of (pairs a b) = capped (count_of a * count_of b)
 count_of (sets a) = capped_power 2 (count_of a)
 count_of (seqs a n) = capped_sequences (count_of a) n
 count_of (maps a b) = capped_power (count_of b + 1) (count_of a)
+count_of (enums ns) = capped (length ns)

@@ -2,7 +2,8 @@
 use Rattle.std.specs.Prelude.{◌&&◌, Bool, true, false, Option, Some, None, int_le, nat_le, max}
 use Rattle.std.specs.Option.{option_map}
 use Rattle.std.specs.Int.{int_min, int_max}
-use Rattle.kid_value.specs.PlainSort.{PlainSort, never, bools, ints, pairs, sets, seqs, maps}
+use Rattle.kid_value.specs.NameSet.{are_among, names_union}
+use Rattle.kid_value.specs.PlainSort.{PlainSort, never, bools, ints, pairs, sets, seqs, maps, enums}
 
 -- whether the first lies within the second, part by part: then each value of the first is one of the second
 abbrev pub is_subsort : PlainSort → PlainSort → Bool
@@ -13,6 +14,7 @@ is_subsort (pairs a b) (pairs c d) = is_subsort a c && is_subsort b d
 is_subsort (sets a) (sets c) = is_subsort a c
 is_subsort (seqs a n) (seqs c m) = is_subsort a c && nat_le n m
 is_subsort (maps a b) (maps c d) = is_subsort a c && is_subsort b d
+is_subsort (enums ms) (enums ns) = are_among ms ns
 is_subsort s t = false
 
 -- both, where both are there
@@ -31,4 +33,5 @@ join (pairs a b) (pairs c d) = both pairs (join a c) (join b d)
 join (sets a) (sets c) = option_map sets (join a c)
 join (seqs a n) (seqs c m) = option_map (λ x. seqs x (max n m)) (join a c)
 join (maps a b) (maps c d) = both maps (join a c) (join b d)
+join (enums ms) (enums ns) = Some (enums (names_union ms ns))
 join s t = None

@@ -1,9 +1,24 @@
 -- How the logic stores a value.
-use Rattle.std.specs.Prelude.{◌≡◌, List, refl, pos, negsuc, true, false}
+use Rattle.std.specs.Prelude.{◌≡◌, ℕ, List, [], ◌∷◌, refl, pos, negsuc, true, false}
 use Rattle.std.proofs.Common.{ap, ◌∙◌, sym}
 use Rattle.std.specs.Coded.{Coded, coded_list, coded×}
 use base.Stored.{Gv, gnil, gnum, gcons}
-use Rattle.kid_value.specs.PlainValue.{PlainValue, int, bool, pair, set, seq, map_of, PlainValues, none, more, PlainEntries, no_entry, entry}
+use Rattle.kid_value.specs.PlainValue.{PlainValue, int, bool, pair, set, seq, map_of, tag, PlainValues, none, more, PlainEntries, no_entry, entry}
+
+abbrev pub name_code : List ℕ → Gv
+name_code [] = gnil
+name_code (n ∷ ns) = gcons (gnum n) (name_code ns)
+
+abbrev pub decoded_name : Gv → List ℕ
+decoded_name gnil = []
+decoded_name (gnum n) = []
+decoded_name (gcons gnil x) = []
+decoded_name (gcons (gnum n) x) = n ∷ decoded_name x
+decoded_name (gcons (gcons a b) x) = []
+
+pub decoded-name_code : (n : List ℕ) → decoded_name (name_code n) ≡ n
+decoded-name_code [] = refl
+decoded-name_code (n ∷ ns) = ap (λ z. n ∷ z) (decoded-name_code ns)
 
 abbrev mutual
   pub code : PlainValue → Gv
@@ -15,6 +30,7 @@ abbrev mutual
   code (set vs) = gcons (gcons gnil gnil) (codes vs)
   code (seq vs) = gcons (gcons (gnum 0) gnil) (codes vs)
   code (map_of es) = gcons (gcons (gcons gnil gnil) gnil) (entry_codes es)
+  code (tag n) = gcons (gnum 0) (gcons gnil (name_code n))
 
   pub codes : PlainValues → Gv
   codes none = gnil
@@ -28,7 +44,9 @@ abbrev mutual
   pub decoded : Gv → PlainValue
   decoded gnil = bool false
   decoded (gnum n) = int (pos n)
-  decoded (gcons (gnum n) x) = int (negsuc n)
+  decoded (gcons (gnum n) gnil) = int (negsuc n)
+  decoded (gcons (gnum n) (gnum m)) = int (negsuc n)
+  decoded (gcons (gnum n) (gcons a b)) = tag (decoded_name b)
   decoded (gcons gnil gnil) = bool true
   decoded (gcons gnil (gnum n)) = bool true
   decoded (gcons gnil (gcons a b)) = pair (decoded a) (decoded b)
@@ -58,6 +76,7 @@ mutual
   decoded-code (set vs) = ap set (decoded-codes vs)
   decoded-code (seq vs) = ap seq (decoded-codes vs)
   decoded-code (map_of es) = ap map_of (decoded-entry_codes es)
+  decoded-code (tag n) = ap tag (decoded-name_code n)
 
   pub decoded-codes : (vs : PlainValues) → decoded_items (codes vs) ≡ vs
   decoded-codes none = refl

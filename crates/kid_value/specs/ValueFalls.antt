@@ -5,7 +5,7 @@ use denote.Param.Weighed.{most}
 use Rattle.kid_value.specs.PlainValue.{height, heights, row, entry_heights, table}
 use Rattle.kid_value.specs.ValueView.{plain, plain_entry}
 use Rattle.kid_value.specs.declared.value.Value.{Value}
-use Rattle.kid_value.specs.declared.value.Value.TheVariants.{Int, Bool, Pair, Set, Seq, Map}
+use Rattle.kid_value.specs.declared.value.Value.TheVariants.{Int, Bool, Pair, Set, Seq, Map, Tag}
 use Rattle.kid_value.specs.declared.entries.Entries.TheDeep.{deep-Value}
 
 pub deep-le-height : (n : Value) → deep-Value n ≤ height (plain n)
@@ -15,6 +15,7 @@ deep-le-height (Pair a b) = omega arith
 deep-le-height (Set vs) = omega arith
 deep-le-height (Seq vs) = omega arith
 deep-le-height (Map es) = omega arith
+deep-le-height (Tag n) = omega arith
 
 pub most_le-heights : (vs : List Value) → most deep-Value vs ≤ heights (row (map plain vs))
 most_le-heights [] = omega arith

@@ -3,7 +3,8 @@ use Rattle.std.specs.Prelude.{◌≡◌, ℕ}
 use Rattle.std.specs.declared.cmp.Ordering.{Ordering}
 use Rattle.std.specs.declared.cmp.Ordering.TheVariants.{Less, Equal, Greater}
 use Rattle.std.specs.Ordering.{ordering_then, ordering_reverse, nat_cmp, int_cmp, bool_cmp}
-use Rattle.kid_value.specs.PlainValue.{PlainValue, int, bool, pair, set, seq, map_of, PlainValues, none, more, PlainEntries, no_entry, entry}
+use Rattle.kid_value.specs.NameSet.{name_cmp}
+use Rattle.kid_value.specs.PlainValue.{PlainValue, int, bool, pair, set, seq, map_of, tag, PlainValues, none, more, PlainEntries, no_entry, entry}
 
 abbrev pub kind_rank : PlainValue → ℕ
 kind_rank (int n) = 0
@@ -12,6 +13,7 @@ kind_rank (pair a b) = 2
 kind_rank (set vs) = 3
 kind_rank (seq vs) = 4
 kind_rank (map_of es) = 5
+kind_rank (tag n) = 6
 
 abbrev mutual
   pub value_cmp : PlainValue → PlainValue → Ordering
@@ -21,6 +23,7 @@ abbrev mutual
   value_cmp (set vs) (set ws) = set_cmp vs ws
   value_cmp (seq vs) (seq ws) = seq_cmp vs ws
   value_cmp (map_of m) (map_of n) = map_cmp m n
+  value_cmp (tag m) (tag n) = name_cmp m n
   value_cmp v w = nat_cmp (kind_rank v) (kind_rank w)
 
   -- the list that ends first is smaller

@@ -38,6 +38,7 @@ impl Value {
             Value::Map(es) => Ok(Value::Map(Entries {
                 items: copy_entries(alloc, &es.items)?,
             })),
+            Value::Tag(n) => Ok(Value::Tag(n.copy(alloc)?)),
         }
     }
 }

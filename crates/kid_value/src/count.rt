@@ -32,6 +32,7 @@ fn count(s: &Sort) -> u32
             let values = count(b);
             power(u64::from(values) + 1, keys)
         }
+        Sort::Enum(names) => capped(names.items().len() as u64),
     }
 }
 

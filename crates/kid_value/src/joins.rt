@@ -7,10 +7,11 @@ ghost use Rattle.kid_value.specs.PlainValue.{PlainValue};
 ghost use Rattle.kid_value.specs.SortView.{plain_sort};
 
 use crate::memory::Memory;
+use crate::name_set::{are_among, union};
 use crate::sort::Sort;
 use std::alloc::Global;
 
-/// Whether the first sort is `Never`, or both have one shape and the bounds of the first lie in those of the second.
+/// Whether the first sort is `Never`, or both have one shape and the bounds and names of the first lie in those of the second.
 pub fn subsort(a: &Sort, b: &Sort) -> bool
     ensures value { result ≡ is_subsort (plain_sort a.now) (plain_sort b.now) }
     ensures keeps { result ≡ true → (v : PlainValue) → has_sort (plain_sort a.now) v ≡ true → has_sort (plain_sort b.now) v ≡ true }
@@ -30,6 +31,7 @@ fn is_below(a: &Sort, b: &Sort) -> bool
         (Sort::Seq { item: a, bound: n }, Sort::Seq { item: c, bound: m }) => is_below(a, c)
             && *n <= *m,
         (Sort::Map(a, b), Sort::Map(c, d)) => is_below(a, c) && is_below(b, d),
+        (Sort::Enum(a), Sort::Enum(b)) => are_among(a.items(), b.items()),
         _ => false,
     }
 }
@@ -72,6 +74,7 @@ fn joined(alloc: Global, a: &Sort, b: &Sort) -> Result<Option<Sort>, Memory>
             let value = joined(alloc, b, d)?;
             map_of(alloc, key, value)
         }
+        (Sort::Enum(a), Sort::Enum(b)) => Ok(Some(Sort::Enum(union(alloc, a, b)?))),
         _ => Ok(None),
     }
 }

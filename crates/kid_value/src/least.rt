@@ -6,6 +6,7 @@ ghost use Rattle.kid_value.specs.ValueView.{plain};
 use crate::entries::Entries;
 use crate::members::Members;
 use crate::memory::Memory;
+use crate::name_set::least_name;
 use crate::sort::Sort;
 use crate::value::Value;
 use crate::values::Values;
@@ -34,5 +35,6 @@ fn least_from(alloc: Global, s: &Sort) -> Result<Value, Memory>
         Sort::Set(_) => Ok(Value::Set(Members::new(alloc))),
         Sort::Seq { .. } => Ok(Value::Seq(Values::new(alloc))),
         Sort::Map(_, _) => Ok(Value::Map(Entries::new(alloc))),
+        Sort::Enum(names) => Ok(Value::Tag(least_name(alloc, names)?)),
     }
 }

@@ -38,6 +38,7 @@ pub(crate) fn compare(a: &Value, b: &Value) -> Ordering
         (Value::Set(v), Value::Set(w)) => compare_sets(&v.items, &w.items),
         (Value::Seq(v), Value::Seq(w)) => compare_sequences(&v.items, &w.items),
         (Value::Map(m), Value::Map(n)) => compare_maps(&m.items, &n.items),
+        (Value::Tag(m), Value::Tag(n)) => m.cmp(n),
         _ => kind_rank(a).cmp(&kind_rank(b)),
     }
 }
@@ -52,6 +53,7 @@ fn kind_rank(v: &Value) -> u8
         Value::Set(_) => 3,
         Value::Seq(_) => 4,
         Value::Map(_) => 5,
+        Value::Tag(_) => 6,
     }
 }
 

@@ -1,5 +1,5 @@
 //! Values and sorts that the tests build.
-use kid_value::{Entries, Members, Memory, Sort, Value, Values};
+use kid_value::{Entries, Members, Memory, Sort, Text, Texts, Value, Values};
 use std::alloc::Global;
 
 pub fn set(alloc: Global, items: &[i64]) -> Result<Value, Memory> {
@@ -43,4 +43,27 @@ pub fn map_sort(alloc: Global, key: Sort, value: Sort) -> Result<Sort, Memory> {
 
 pub fn pair_sort(alloc: Global, first: Sort, second: Sort) -> Result<Sort, Memory> {
     Ok(Sort::Pair(Box::new(alloc, first)?, Box::new(alloc, second)?))
+}
+
+pub fn tag(alloc: Global, name: &str) -> Result<Value, Memory> {
+    Ok(Value::Tag(Text::from_slice(alloc, name.as_bytes())?))
+}
+
+pub fn enum_sort(alloc: Global, names: &[&str]) -> Result<Sort, Memory> {
+    let mut texts = Texts::new(alloc);
+    for name in names {
+        texts.push(Text::from_slice(alloc, name.as_bytes())?)?;
+    }
+    Ok(Sort::Enum(texts))
+}
+
+/// The enum whose names are one byte each, from `first` on and before `end`.
+pub fn byte_enum(alloc: Global, first: u8, end: u8) -> Result<Sort, Memory> {
+    let mut texts = Texts::new(alloc);
+    for byte in first..end {
+        let mut text = Text::new(alloc);
+        text.push(byte)?;
+        texts.push(text)?;
+    }
+    Ok(Sort::Enum(texts))
 }

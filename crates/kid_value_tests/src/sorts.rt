@@ -1,5 +1,5 @@
 //! Counts, limits and joins of sorts.
-use crate::built::{map_sort, pair_sort, sequence_sort, set_sort};
+use crate::built::{byte_enum, enum_sort, map_sort, pair_sort, sequence_sort, set_sort};
 use kid_value::{Sort, count_of, join, sort_ok, subsort};
 use std::test::Fail;
 
@@ -34,6 +34,8 @@ fn counts_up_to_the_cap(rt: HostRuntime) -> Result<(), Fail> {
     assert_eq!(rt; count_of(&sequence_sort(alloc, Sort::Bool, 15)?), 65535);
     assert_eq!(rt; count_of(&sequence_sort(alloc, Sort::Bool, 16)?), 65537);
     assert_eq!(rt; count_of(&set_sort(alloc, Sort::Never)?), 1);
+    assert_eq!(rt; count_of(&byte_enum(alloc, 1, 65)?), 64);
+    assert_eq!(rt; count_of(&set_sort(alloc, byte_enum(alloc, 1, 17)?)?), 65536);
     Ok(())
 }
 
@@ -70,6 +72,52 @@ fn allows_sorts(rt: HostRuntime) -> Result<(), Fail> {
     assert!(rt; !sort_ok(&set_sort(alloc, Sort::Int { lo: 0, hi: 65536 })?));
     assert!(rt; sort_ok(&sequence_sort(alloc, Sort::Never, 65536)?));
     assert!(rt; !sort_ok(&sequence_sort(alloc, Sort::Never, 65537)?));
+    Ok(())
+}
+
+#[test]
+fn allows_enums_of_ascending_names(rt: HostRuntime) -> Result<(), Fail> {
+    let alloc = rt.alloc();
+    assert!(rt; !sort_ok(&byte_enum(alloc, 1, 1)?), "no name");
+    assert!(rt; sort_ok(&byte_enum(alloc, 1, 65)?), "64 names");
+    assert!(rt; !sort_ok(&byte_enum(alloc, 1, 66)?), "65 names");
+    let table: [(&[&str], bool); 6] = [
+        (&["a"], true),
+        (&["blue", "red"], true),
+        (&["red", "blue"], false),
+        (&["red", "red"], false),
+        (&["a", "ab", "b"], true),
+        (&["a", "ba", "b"], false),
+    ];
+    for (names, allowed) in table {
+        let sort = enum_sort(alloc, names)?;
+        assert!(rt; sort_ok(&sort) == allowed, "{names:?}");
+    }
+    Ok(())
+}
+
+#[test]
+fn joins_enums_to_their_union(rt: HostRuntime) -> Result<(), Fail> {
+    let alloc = rt.alloc();
+    let first = enum_sort(alloc, &["a", "c", "d"])?;
+    let second = enum_sort(alloc, &["b", "d", "e"])?;
+    let both = enum_sort(alloc, &["a", "b", "c", "d", "e"])?;
+    assert!(rt; !subsort(&first, &second) && subsort(&first, &both) && !subsort(&both, &first));
+    match join(alloc, &first, &second)? {
+        Some(sort) => {
+            assert!(rt; sort_ok(&sort) && subsort(&sort, &both) && subsort(&both, &sort));
+            assert_eq!(rt; count_of(&sort), 5);
+        }
+        None => assert!(rt; false, "no join"),
+    }
+    match join(alloc, &byte_enum(alloc, 1, 50)?, &byte_enum(alloc, 40, 66)?)? {
+        Some(sort) => {
+            assert_eq!(rt; count_of(&sort), 65);
+            assert!(rt; !sort_ok(&sort));
+        }
+        None => assert!(rt; false, "no join"),
+    }
+    assert!(rt; join(alloc, &first, &Sort::Bool)?.is_none());
     Ok(())
 }
 

@@ -1,5 +1,5 @@
 //! The order of values, least values and copies.
-use crate::built::{map, pair_sort, sequence, set, set_sort};
+use crate::built::{enum_sort, map, pair_sort, sequence, set, set_sort, tag};
 use kid_value::{Sort, Value, cmp, has_sort, least_of};
 use std::cmp::Ordering;
 use std::test::Fail;
@@ -62,6 +62,41 @@ fn orders_kinds(rt: HostRuntime) -> Result<(), Fail> {
     assert!(rt; in_order(&pair, &empty));
     assert!(rt; in_order(&empty, &sequence));
     assert!(rt; in_order(&sequence, &map));
+    assert!(rt; in_order(&map, &tag(rt.alloc(), "a")?));
+    Ok(())
+}
+
+#[test]
+fn orders_tags_by_their_bytes(rt: HostRuntime) -> Result<(), Fail> {
+    let table = [
+        ("a", "b"),
+        ("a", "ab"),
+        ("ab", "b"),
+        ("a-b", "a0"),
+        ("a9", "aa"),
+        ("blue", "red"),
+    ];
+    for (a, b) in table {
+        let first = tag(rt.alloc(), a)?;
+        let second = tag(rt.alloc(), b)?.copy(rt.alloc())?;
+        assert!(rt; in_order(&first, &second), "{a} before {b}");
+    }
+    Ok(())
+}
+
+#[test]
+fn tells_the_tags_of_an_enum(rt: HostRuntime) -> Result<(), Fail> {
+    let alloc = rt.alloc();
+    let colours = enum_sort(alloc, &["blue", "green", "red"])?.copy(alloc)?;
+    let least = least_of(alloc, &colours)?;
+    assert!(rt; cmp(&least, &tag(alloc, "blue")?) == Ordering::Equal);
+    for name in ["blue", "green", "red"] {
+        assert!(rt; has_sort(&tag(alloc, name)?, &colours), "{name}");
+    }
+    for name in ["", "gree", "greens", "white"] {
+        assert!(rt; !has_sort(&tag(alloc, name)?, &colours), "{name}");
+    }
+    assert!(rt; !has_sort(&Value::Int(1), &colours));
     Ok(())
 }
 
