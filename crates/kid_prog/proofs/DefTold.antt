@@ -16,7 +16,8 @@ use Rattle.kid_codec.specs.Name.{is_name}
 use Rattle.kid_codec.specs.Reading.{◌>>=◌}
 use Rattle.kid_codec.specs.Shape.{form, quadruple}
 use Rattle.kid_codec.specs.SortSpelling.{headed, sort_spelling, is_spelled_sort, spelled_sort}
-use Rattle.kid_codec.specs.TermSpelling.{term_spelling, is_spelled_term, spelled_name, spelled_term}
+use Rattle.kid_codec.specs.NameSpelling.{spelled_name}
+use Rattle.kid_codec.specs.TermSpelling.{term_spelling, is_spelled_term, spelled_term}
 use Rattle.kid_codec.proofs.Found.{both_some, bind_some}
 use Rattle.kid_codec.proofs.SortTold.{sort_whole}
 use Rattle.kid_codec.proofs.ShapeTold.{form_told, quadruple_told}

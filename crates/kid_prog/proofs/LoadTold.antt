@@ -15,7 +15,7 @@ use Rattle.kid_sorting.specs.Declaring.{are_allowed}
 use Rattle.kid_sorting.specs.PlainSignature.{PlainSignature}
 use Rattle.kid_sorting.proofs.SoundDefinitions.{names-allowed, sound-more}
 use Rattle.kid_codec.specs.Name.{is_name}
-use Rattle.kid_codec.specs.SortSpelling.{is_spelled_sort}
+use Rattle.kid_codec.specs.SortSpelling.{has_spelled_names, is_spelled_sort}
 use Rattle.kid_codec.specs.NamedValues.{sort_has_tags}
 use Rattle.kid_prog.specs.Formats.{may_stand}
 use Rattle.kid_prog.specs.Tags.{name_has_tags, names_have_tags, definition_has_tags, program_has_tags}
@@ -38,6 +38,10 @@ use Rattle.kid_prog.proofs.StageForms.{version_told, input_told, output_told, fi
 not_refused : {A : Type 0} (k : ℕ) (c : LoadCode) (x : A) → refused k c ≡ Ok x → ⊥
 not_refused k c x p = cc
 
+-- what has a spelling is allowed
+spelled_allowed : (s : PlainSort) → is_spelled_sort s ≡ true → is_allowed s ≡ true
+spelled_allowed s h = (and_parts (is_allowed s) (not (has_never s)) (and_parts (is_allowed s && not (has_never s)) (has_spelled_names s) h).0).0
+
 -- names that have spellings have allowed sorts
 spelled-allowed : (ns : Names) → list_all is_spelled_name ns ≡ true → are_allowed ns ≡ true
 spelled-allowed [] h = refl
@@ -46,7 +50,7 @@ spelled-allowed (n ∷ ns) h =
     and_both (is_allowed n.1) (are_allowed ns) (name_allowed n r.0) (spelled-allowed ns r.1)
   where
     name_allowed : (n : List ℕ × PlainSort) → is_spelled_name n ≡ true → is_allowed n.1 ≡ true
-    name_allowed n h = (and_parts (is_allowed n.1) (not (has_never n.1)) (and_parts (is_name n.0) (is_spelled_sort n.1) h).1).0
+    name_allowed n h = spelled_allowed n.1 (and_parts (is_name n.0) (is_spelled_sort n.1) h).1
 
 -- definitions that are sound, and names that have spellings, which may stand in a file of the format
 record Proper (f : Format) (s : PlainSignature) : Type 0 where
@@ -190,7 +194,7 @@ last_told k h s t condition ts p proper required e =
     })
   where
     output_allowed : (n : List ℕ × PlainSort) → is_spelled_name n ≡ true → is_allowed n.1 ≡ true
-    output_allowed n h = (and_parts (is_allowed n.1) (not (has_never n.1)) (and_parts (is_name n.0) (is_spelled_sort n.1) h).1).0
+    output_allowed n h = spelled_allowed n.1 (and_parts (is_name n.0) (is_spelled_sort n.1) h).1
 
 -- one more input
 input_more : (k : ℕ) (f : Format) (s : PlainSignature) (t : Plain) (ts : Plains) (p : PlainProgram) (n : List ℕ × PlainSort) → input_form f s t ≡ Ok n → RestTold f (with_input s n) ts p → RestTold f s (more t ts) p

@@ -15,7 +15,8 @@ use Rattle.kid_codec.specs.NamedValues.{term_has_tags}
 use Rattle.kid_codec.specs.Reading.{◌>>=◌}
 use Rattle.kid_codec.specs.Shape.{form, begins, single, couple, quadruple}
 use Rattle.kid_codec.specs.SortSpelling.{spelled_number, spelled_sort}
-use Rattle.kid_codec.specs.TermSpelling.{spelled_name, spelled_term}
+use Rattle.kid_codec.specs.NameSpelling.{spelled_name}
+use Rattle.kid_codec.specs.TermSpelling.{spelled_term}
 use Rattle.kid_prog.specs.Formats.{may_stand}
 use Rattle.kid_prog.specs.PlainStmt.{PlainStmts}
 use Rattle.kid_prog.specs.StmtShape.{spelled_stmts}
