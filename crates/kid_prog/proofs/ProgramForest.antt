@@ -1,7 +1,8 @@
 -- The forms of a program, put one after another.
-use Rattle.std.proofs.Common.{◌≡◌, ℕ, List, [], ◌∷◌, Option, Some, None, refl, ap, ◌∙◌}
+use Rattle.std.proofs.Common.{◌≡◌, ℕ, List, [], ◌∷◌, Option, Some, None, refl, sym, ap, ◌∙◌}
 use Rattle.std.specs.Prelude.{codes}
 use Rattle.kid_sexp.specs.Plain.{Plain, Plains, list, none, more, one, join}
+use Rattle.kid_sexp.specs.PlainCode.{join-none}
 use Rattle.kid_term.specs.Names.{Names, PlainDef}
 use Rattle.kid_codec.specs.SortSpelling.{headed}
 use Rattle.kid_codec.specs.TermSpelling.{term_spelling}
@@ -29,6 +30,15 @@ first-joined start pushed forms new t v ds es ms ns a b c d e f g =
     let front : pushed ≡ one v = b ∙ (λ i. join (a i) (one (c i))) in
     let begun : forms ≡ more v (definitions_before es none) = d ∙ (λ i. join (front i) (definitions_before (e i) none)) in
     f ∙ (λ i. join (begun i) (inputs_before (g i) none)) ∙ ap (more v) (definitions-join es none (inputs_before ns none))
+
+pub nothing_put : (f : Plains) → f ≡ join f none
+nothing_put f = sym (join-none f)
+
+pub one_put : (f g : Plains) (t u : Plain) → g ≡ join f (one t) → t ≡ u → g ≡ join f (more u none)
+one_put f g t u p q = p ∙ ap (λ (v : Plain). join f (one v)) q
+
+-- what is put where all values are wanted, and where not all are
+pub ruleset puts = (nothing_put, one_put)
 
 first-join : (first : Option ℕ) (rest : Plains) → join (first_before first none) rest ≡ first_before first rest
 first-join None rest = refl

@@ -82,11 +82,6 @@ first-next k m h with_one trees rest tree r n e are is judged held grown =
     ∙ passed (λ c. c) r (first_form (plain tree)) m n (λ c. after_first m (with_first h c) (plains rest)) judged held
     ∙ ap (λ z. after_first m z (plains rest)) (sym grown)
 
-pub first-none : (k : ℕ) (h : Heading) (trees rest : List Tree) (tree : Tree) → trees ≡ tree ∷ rest → is_first (plain tree) ≡ false
-    → after_output k h (plains trees) ≡ after_first k h (plains trees)
-first-none k h trees rest tree are is =
-    first_staged k (suc k) h trees rest tree false refl are is ∙ ap (λ (ts : List Tree). after_first k h (plains ts)) (sym are)
-
 -- what the next of the forms after inputs leads to
 abbrev stage : ℕ → Format → PlainSignature → Tree → List Tree → Bool → Loaded PlainProgram
 stage k f s tree rest b =

@@ -44,13 +44,17 @@ fn output_tree(alloc: Global, program: &Program) -> Result<Tree, Memory>
 }
 
 /// These forms, and the one that says how many values are wanted, where not all are.
+#[tactic(auto, using(crate::proofs::ProgramForest::puts))]
 fn with_first(alloc: Global, mut forms: Forest, first: Option<u32>) -> Result<Forest, Memory>
     ensures { IfOk result (λ f. f ≡ join forms (first_before first none)) }
 {
-    if let Some(count) = first {
-        forms.push(number_form(alloc, b"first", count)?)?;
+    match first {
+        Some(count) => {
+            forms.push(number_form(alloc, b"first", count)?)?;
+            Ok(forms)
+        }
+        None => Ok(forms),
     }
-    Ok(forms)
 }
 
 fn main_tree(alloc: Global, program: &Program) -> Result<Tree, Memory>
