@@ -12,7 +12,8 @@ use Rattle.std.proofs.lemmas.Str.{IsUtf8-from_ascii}
 use Rattle.std.proofs.lemmas.Str.Parse.{digit_from_value}
 use Rattle.kid_value.specs.SortLimits.{in_limits}
 use Rattle.kid_value.proofs.SortLemmas.{and_parts, and_both}
-use Rattle.kid_codec.specs.Name.{starts_with_letter}
+use Rattle.kid_codec.specs.Name.{is_name, starts_with_letter}
+use Rattle.kid_codec.specs.NameSpelling.{is_tag}
 use Rattle.kid_codec.specs.Number.{number_of}
 
 pub small_pos : (n : ℕ) → in_limits (pos n) ≡ true → n < 2 ^ 63
@@ -66,6 +67,14 @@ digits_begin (c ∷ cs) a l p = let k = digit_from_value c a.0 in let r = and_pa
 pub no_letter : (n : ℤ) → in_limits n ≡ true → starts_with_letter (signed_decimal n) ≡ true → ⊥
 no_letter (pos n) h p = let k = decimal_is_IsNumeral n (omega (arith, small_pos n h)) in digits_begin (decimal n) k.0.1 k.0.0 p
 no_letter (negsuc n) h p = cc
+
+digits_no_tag : (ds : List ℕ) → AllDigits 10 ds → is_tag ds ≡ true → ⊥
+digits_no_tag [] a p = cc
+digits_no_tag (c ∷ cs) a p = let k = digit_from_value c a.0 in let r = and_parts (c == 39) (is_name cs) p in let q : c ≡ 39 = grind (arith, nat_tests) in omega (arith, k)
+
+pub no_tag : (n : ℤ) → in_limits n ≡ true → is_tag (signed_decimal n) ≡ true → ⊥
+no_tag (pos n) h p = let k = decimal_is_IsNumeral n (omega (arith, small_pos n h)) in digits_no_tag (decimal n) k.0.1 p
+no_tag (negsuc n) h p = cc
 
 -- what begins with a letter is no number
 pub number_of-letter : (w : List ℕ) → starts_with_letter w ≡ true → number_of w ≡ None

@@ -1,12 +1,13 @@
 -- Lists as they are printed.
 use Rattle.std.proofs.Common.{◌≡◌, ℕ, ◌+◌, ◌<◌, ◌≤◌, List, ◌∷◌, length, get_or, drop, map, refl, arith, subst}
-use Rattle.kid_sexp.specs.Plain.{Plain, Plains, list, more, one}
+use Rattle.kid_sexp.specs.Plain.{Plain, Plains, atom, list, more, one}
 use Rattle.kid_value.specs.PlainValue.{heights, entry_heights, row, table}
 use Rattle.kid_value.specs.ValueView.{plain, plain_entry}
 use Rattle.kid_value.specs.declared.value.Value.{Value}
 use Rattle.kid_term.specs.declared.Term.{Term}
 use Rattle.kid_term.specs.PlainTerm.{depths, term_row}
 use Rattle.kid_term.specs.TermView.{plain_term}
+use Rattle.kid_codec.specs.NameSpelling.{name_spellings}
 use Rattle.kid_codec.specs.ValueSpelling.{value_spelling, value_spellings, entry_spellings}
 use Rattle.kid_codec.specs.TermSpelling.{term_spelling, term_spellings}
 use Rattle.kid_codec.proofs.Each.{PrintsEach, cons_at}
@@ -52,3 +53,6 @@ pub terms_deep : (vs : List Term) (i : ℕ) (v : Term) (n : ℕ) → i < length 
 terms_deep vs i v n within is le =
     let cut : depths (term_row (map plain_term (v ∷ drop (i + 1) vs))) ≤ n = subst (λ (xs : List Term). depths (term_row (map plain_term xs)) ≤ n) (cons_at vs i v within is) le in
     omega arith
+
+pub names_print : PrintsEach (λ (n : List ℕ). atom n) name_spellings
+names_print = record { at_none = refl; at_more = λ n ns. refl }

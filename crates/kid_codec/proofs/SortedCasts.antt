@@ -5,7 +5,7 @@ use Rattle.kid_value.specs.PlainSort.{PlainSort, has_never}
 use Rattle.kid_value.specs.SortLimits.{is_allowed}
 use Rattle.kid_value.proofs.SortLemmas.{and_both}
 use Rattle.kid_term.specs.Names.{Names, PlainDef, latest_first}
-use Rattle.kid_term.specs.PlainTerm.{PlainHead, op, call, cast, PlainTerm, var, number, truth, app, bind, PlainTerms, no_term, term, node_count, depth}
+use Rattle.kid_term.specs.PlainTerm.{PlainHead, op, call, cast, PlainTerm, var, number, truth, tag, app, bind, PlainTerms, no_term, term, node_count, depth}
 use Rattle.kid_term.specs.Sorted.{Fault, Size, TermDeep, Bounds, Sorted, ◌>>=◌, allowed, with_set}
 use Rattle.kid_term.specs.Sorting.{head_sort, binder_sort, unshadowed, least_sort, least_sorts, sort_of}
 use Rattle.kid_term.specs.Written.{Numbers, written}
@@ -33,6 +33,7 @@ mutual
   least_casts known names (var x) s p = refl
   least_casts known names (number n) s p = refl
   least_casts known names (truth b) s p = refl
+  least_casts known names (tag n) s p = refl
   least_casts known names (app h ts) s p =
       let r = bind_ok (least_sorts known names ts) (head_sort known h (written ts)) s p in
       and_both (is_allowed_head h) (all_casts_are_allowed ts) (head_allowed known h (written ts) r.0 s r.2) (all_least_casts known names ts r.0 r.1)

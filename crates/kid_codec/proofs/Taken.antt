@@ -3,11 +3,15 @@ use Rattle.std.proofs.Common.{◌≡◌, List, [], ◌∷◌, ◌++◌, Option, 
 use Rattle.std.specs.Prelude.{option_map}
 use Rattle.kid_value.specs.PlainValue.{PlainValue}
 use Rattle.kid_value.specs.ValueSet.{put, set_of}
+use Rattle.kid_codec.specs.NameSpelling.{spelled_name, spelled_names}
 use Rattle.kid_codec.specs.Reading.{◌>>=◌}
 use Rattle.kid_codec.specs.ValueSpelling.{spelled_value, spelled_values, spelled_entry, spelled_entries, with_entry, with_entries}
 use Rattle.kid_codec.specs.TermSpelling.{spelled_term, spelled_terms}
 use Rattle.kid_codec.proofs.Each.{ReadsEach}
 use Rattle.kid_codec.proofs.Puts.{puts, puts-set}
+
+pub names_each : ReadsEach spelled_name spelled_names
+names_each = record { at_none = refl; at_more = λ t ts. refl }
 
 pub values_each : ReadsEach spelled_value spelled_values
 values_each = record { at_none = refl; at_more = λ t ts. refl }

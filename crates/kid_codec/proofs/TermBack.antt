@@ -20,8 +20,9 @@ use Rattle.kid_term.specs.declared.operator.Op.{Op}
 use Rattle.kid_term.specs.declared.operator.Op.TheVariants.{Logic, Number, Pair, Set, Seq, Map, Word}
 use Rattle.kid_term.specs.declared.operator.Binder.{Binder}
 use Rattle.kid_term.specs.declared.operator.Binder.TheVariants as binder
-use Rattle.kid_term.specs.PlainTerm.{PlainHead, op, call, cast, PlainTerm, var, number, truth, app, bind, PlainTerms, no_term, term, terms, term_row}
+use Rattle.kid_term.specs.PlainTerm.{PlainHead, op, call, cast, PlainTerm, var, number, truth, tag, app, bind, PlainTerms, no_term, term, terms, term_row}
 use Rattle.kid_codec.specs.Name.{is_name, is_reserved, starts_with_letter, is_name_byte}
+use Rattle.kid_codec.specs.NameSpelling.{tag_word, is_tag, tag_name}
 use Rattle.kid_codec.specs.Number.{number_of}
 use Rattle.kid_codec.specs.Reading.{judged, ◌>>=◌}
 use Rattle.kid_codec.specs.SortSpelling.{sort_spelling, is_spelled_sort}
@@ -30,7 +31,8 @@ use Rattle.kid_codec.specs.Word.{word_of, binder_word, op_of, binder_of}
 use Rattle.kid_codec.specs.declared.fault.CodecFault.TheVariants as fault
 use Rattle.kid_codec.proofs.Numbers.{number_of-decimal, no_letter}
 use Rattle.kid_codec.proofs.SortBack.{spelled_parts}
-use Rattle.kid_codec.proofs.ValueBack.{number_no_word}
+use Rattle.kid_codec.proofs.NameLemmas.{tag_term_read}
+use Rattle.kid_codec.proofs.ValueBack.{number_no_word, number_no_tag}
 use Rattle.kid_codec.proofs.Words.{op_of-word, binder_of-word}
 
 op_no_name : (o : Op) → is_name (word_of o) ≡ false
@@ -304,15 +306,17 @@ named x h = ap (λ (b : Bool). if b then Some x else None) h
 mutual
   pub term_back : (t : PlainTerm) → is_spelled_term t ≡ true → spelled_term (term_spelling t) ≡ Some t
   term_back (var x) h =
-      ap (λ (b : Bool). if b then Some (var x) else (if bytes_eq x (codes "true") then Some (truth true) else (if bytes_eq x (codes "false") then Some (truth false) else option_map number (number_of x)))) h
+      ap (λ (b : Bool). if b then Some (var x) else (if bytes_eq x (codes "true") then Some (truth true) else (if bytes_eq x (codes "false") then Some (truth false) else (if is_tag x then Some (tag (tag_name x)) else option_map number (number_of x))))) h
   term_back (number n) h =
       let o = number_no_name n h in
       let p = number_no_word n (codes "true") h refl in
       let q = number_no_word n (codes "false") h refl in
+      let c = number_no_tag n h in
       let r = number_of-decimal n h in
-      λ i. if o i then Some (var (signed_decimal n)) else (if p i then Some (truth true) else (if q i then Some (truth false) else option_map number (r i)))
+      λ i. if o i then Some (var (signed_decimal n)) else (if p i then Some (truth true) else (if q i then Some (truth false) else (if c i then Some (tag (tag_name (signed_decimal n))) else option_map number (r i))))
   term_back (truth true) h = ap (λ (b : Bool). if b then Some (var (codes "true")) else Some (truth true)) true_no_name
   term_back (truth false) h = ap (λ (b : Bool). if b then Some (var (codes "false")) else Some (truth false)) false_no_name
+  term_back (tag n) h = tag_term_read n h
   term_back (app (op o) ts) h =
       let r = and_parts (suits o (terms ts)) (are_spelled_terms ts) h in
       ap (λ (us : Option (List PlainTerm)). term_of_parts (word_of o) us (spelled_cast (term_spellings ts)) (spelled_body (term_spellings ts))) (terms_back ts r.1)
@@ -360,6 +364,7 @@ mutual
   allowed_back (var x) h = refl
   allowed_back (number n) h = refl
   allowed_back (truth b) h = refl
+  allowed_back (tag n) h = refl
   allowed_back (app g ts) h =
       let r = and_parts (is_spelled_head g (terms ts)) (are_spelled_terms ts) h in
       and_both (is_allowed_head g) (all_casts_are_allowed ts) (allowed_head g (terms ts) r.0) (all_allowed_back ts r.1)

@@ -10,17 +10,20 @@ use Rattle.kid_value.specs.SortLimits.{is_allowed}
 use Rattle.kid_value.proofs.SortLemmas.{and_parts, and_both}
 use Rattle.kid_term.specs.declared.operator.Op.{Op}
 use Rattle.kid_term.specs.declared.operator.Binder.{Binder}
-use Rattle.kid_term.specs.PlainTerm.{op, PlainTerm, var, number, truth, app, bind, terms, term_row}
+use Rattle.kid_term.specs.PlainTerm.{op, PlainTerm, var, number, truth, tag, app, bind, terms, term_row}
 use Rattle.kid_codec.specs.Name.{is_name}
+use Rattle.kid_codec.specs.NameSpelling.{spelled_name, is_tag, tag_name}
 use Rattle.kid_codec.specs.Number.{number_of}
 use Rattle.kid_codec.specs.Reading.{◌>>=◌}
 use Rattle.kid_codec.specs.SortSpelling.{is_spelled_sort, spelled_sort}
-use Rattle.kid_codec.specs.TermSpelling.{term_spelling, term_spellings, is_spelled_term, are_spelled_terms, casts_are_allowed, all_casts_are_allowed, applied, suits, called, casted, headed_by, term_of_parts, body_of, spelled_name, atom_term, spelled_term, spelled_list, spelled_terms, spelled_cast, spelled_body}
+use Rattle.kid_codec.specs.TermSpelling.{term_spelling, term_spellings, is_spelled_term, are_spelled_terms, casts_are_allowed, all_casts_are_allowed, applied, suits, called, casted, headed_by, term_of_parts, body_of, atom_term, spelled_term, spelled_list, spelled_terms, spelled_cast, spelled_body}
 use Rattle.kid_codec.specs.Word.{word_of, binder_word, op_of, binder_of}
 use Rattle.kid_codec.proofs.Numbers.{bytes_eq-true}
 use Rattle.kid_codec.proofs.Found.{same_some, if_some, if_else, mapped, both_some, bind_some, number_from}
 use Rattle.kid_codec.proofs.Words.{op_of-told, binder_of-told}
 use Rattle.kid_codec.proofs.SortTold.{sort_whole}
+use Rattle.kid_codec.proofs.NameLemmas.{tag_told}
+pub use Rattle.kid_codec.proofs.NameLemmas.{name_told}
 
 pub record TermTold (t : Plain) (u : PlainTerm) : Type 0 where
   pub tree : t ≡ term_spelling u
@@ -34,16 +37,10 @@ terms_row : (us : List PlainTerm) → terms (term_row us) ≡ us
 terms_row [] = refl
 terms_row (u ∷ us) = ap (λ (l : List PlainTerm). u ∷ l) (terms_row us)
 
-named : (w x : List ℕ) → (if is_name w then Some w else None) ≡ Some x → (w ≡ x) × (is_name x ≡ true)
-named w x p = let r = if_some (is_name w) (Some w) x p in let e = same_some w x r.1 in (e, ap is_name (sym e) ∙ r.0)
-
-pub name_told : (t : Plain) (x : List ℕ) → spelled_name t ≡ Some x → (t ≡ atom x) × (is_name x ≡ true)
-name_told (atom w) x p = let r = named w x p in (ap atom r.0, r.1)
-name_told (list ts) x p = cc
-
 atom_told : (w : List ℕ) (u : PlainTerm) → atom_term w ≡ Some u → TermTold (atom w) u
 atom_told w u p =
-    let n = option_map number (number_of w) in
+    let m = option_map number (number_of w) in
+    let n = if is_tag w then Some (tag (tag_name w)) else m in
     let f = if bytes_eq w (codes "false") then Some (truth false) else n in
     elim (if_else (is_name w) (Some (var w)) (if bytes_eq w (codes "true") then Some (truth true) else f) u p) [
       | inl r ↦ subst (TermTold (atom w)) (same_some (var w) u r.1) (record { tree = refl; spelled = r.0 })
@@ -51,10 +48,15 @@ atom_told w u p =
         | inl q ↦ subst (TermTold (atom w)) (same_some (truth true) u q.1) (record { tree = ap atom (bytes_eq-true w (codes "true") q.0); spelled = refl })
         | inr q ↦ elim (if_else (bytes_eq w (codes "false")) (Some (truth false)) n u q.1) [
           | inl o ↦ subst (TermTold (atom w)) (same_some (truth false) u o.1) (record { tree = ap atom (bytes_eq-true w (codes "false") o.0); spelled = refl })
-          | inr o ↦
-              let m = mapped number (number_of w) u o.1 in
-              let k = number_from w m.0 m.1 in
-              subst (TermTold (atom w)) m.2 (record { tree = ap atom k.0; spelled = k.1 })
+          | inr o ↦ elim (if_else (is_tag w) (Some (tag (tag_name w))) m u o.1) [
+            | inl l ↦
+                let k = tag_told w l.0 in
+                subst (TermTold (atom w)) (same_some (tag (tag_name w)) u l.1) (record { tree = ap atom k.0; spelled = k.1 })
+            | inr l ↦
+                let f = mapped number (number_of w) u l.1 in
+                let k = number_from w f.0 f.1 in
+                subst (TermTold (atom w)) f.2 (record { tree = ap atom k.0; spelled = k.1 })
+          ]
         ]
       ]
     ]

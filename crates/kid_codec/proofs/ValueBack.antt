@@ -8,7 +8,7 @@ use Rattle.std.specs.Str.{bytes_eq}
 use Rattle.kid_value.specs.Canonical.{IsCanonical, AreCanonical, EntriesAreCanonical}
 use Rattle.kid_value.specs.SortOrder.{both}
 use Rattle.kid_value.specs.SortLimits.{in_limits}
-use Rattle.kid_value.specs.PlainValue.{PlainValue, int, bool, pair, set, seq, map_of, PlainValues, none, more, PlainEntries, no_entry, entry, items, entries, row}
+use Rattle.kid_value.specs.PlainValue.{PlainValue, int, bool, pair, set, seq, map_of, tag, PlainValues, none, more, PlainEntries, no_entry, entry, items, entries, row}
 use Rattle.kid_value.specs.ValueMap.{put_entry, put_entry_by, keys}
 use Rattle.kid_value.specs.ValueOrder.{Before}
 use Rattle.kid_value.specs.ValueSet.{Ascends, AllAfter, is_member, put, put_by, set_of}
@@ -16,10 +16,12 @@ use Rattle.kid_value.proofs.PlaceLemmas.{greater-before}
 use Rattle.kid_value.proofs.RowLemmas.{row_items, table_entries}
 use Rattle.kid_value.proofs.SortLemmas.{and_parts}
 use Rattle.kid_codec.specs.Name.{starts_with_letter}
+use Rattle.kid_codec.specs.NameSpelling.{is_tag, tag_name}
 use Rattle.kid_codec.specs.Reading.{◌>>=◌}
 use Rattle.kid_value.specs.Rows.Kinds.{set_of_all, sequence_from, map_from}
 use Rattle.kid_codec.specs.ValueSpelling.{value_spelling, value_spellings, entry_spellings, is_spelled_value, are_spelled_values, are_spelled_entries, with_entry, with_entries, distinct_entries, spelled_value, spelled_values, spelled_entries}
-use Rattle.kid_codec.proofs.Numbers.{number_of-decimal, bytes_eq-true, no_letter}
+use Rattle.kid_codec.proofs.Numbers.{number_of-decimal, bytes_eq-true, no_letter, no_tag}
+use Rattle.kid_codec.proofs.NameLemmas.{tag_read}
 
 put-first : (x : PlainValue) (xs : List PlainValue) → AllAfter x xs → put x xs ≡ x ∷ xs
 put-first x [] h = refl
@@ -70,13 +72,22 @@ not_word n w h l false p = refl
 pub number_no_word : (n : ℤ) (w : List ℕ) → in_limits n ≡ true → starts_with_letter w ≡ true → bytes_eq (signed_decimal n) w ≡ false
 number_no_word n w h l = not_word n w h l (bytes_eq (signed_decimal n) w) refl
 
+not_tag : (n : ℤ) → in_limits n ≡ true → (b : Bool) → is_tag (signed_decimal n) ≡ b → b ≡ false
+not_tag n h true p = absurd (no_tag n h p)
+not_tag n h false p = refl
+
+-- nor a tag
+pub number_no_tag : (n : ℤ) → in_limits n ≡ true → is_tag (signed_decimal n) ≡ false
+number_no_tag n h = not_tag n h (is_tag (signed_decimal n)) refl
+
 mutual
   pub value_back : (v : PlainValue) → IsCanonical v → is_spelled_value v ≡ true → spelled_value (value_spelling v) ≡ Some v
   value_back (int n) c h =
       let p = number_no_word n (codes "true") h refl in
       let q = number_no_word n (codes "false") h refl in
+      let c = number_no_tag n h in
       let r = number_of-decimal n h in
-      λ i. if p i then Some (bool true) else (if q i then Some (bool false) else option_map int (r i))
+      λ i. if p i then Some (bool true) else (if q i then Some (bool false) else (if c i then Some (tag (tag_name (signed_decimal n))) else option_map int (r i)))
   value_back (bool true) c h = refl
   value_back (bool false) c h = refl
   value_back (pair a b) c h =
@@ -90,6 +101,7 @@ mutual
   value_back (map_of es) c h =
       ap (λ (o : Option (List (PlainValue × PlainValue))). option_map map_from (distinct_entries o)) (entries_back es c.1 h)
       ∙ ap (option_map map_from) (entries_kept [] (entries es) c.0) ∙ ap (λ (l : PlainEntries). Some (map_of l)) (table_entries es)
+  value_back (tag n) c h = tag_read n h
 
   pub values_back : (vs : PlainValues) → AreCanonical vs → are_spelled_values vs ≡ true → spelled_values (value_spellings vs) ≡ Some (items vs)
   values_back none c h = refl

@@ -7,14 +7,16 @@ use Rattle.std.specs.Str.{bytes_eq}
 use Rattle.kid_sexp.specs.Plain as tree
 use Rattle.kid_sexp.specs.Plain.{Plain, Plains, atom, list}
 use Rattle.kid_value.specs.SortOrder.{both}
-use Rattle.kid_value.specs.PlainValue.{PlainValue, int, bool, pair, row, table}
+use Rattle.kid_value.specs.PlainValue.{PlainValue, int, bool, pair, tag, row, table}
 use Rattle.kid_value.specs.ValueMap.{put_entry, put_entry_by}
 use Rattle.kid_value.specs.ValueOrder.{value_cmp}
 use Rattle.kid_value.specs.ValueSet.{put, put_by, set_of}
 use Rattle.kid_value.proofs.SortLemmas.{and_parts, and_both}
+use Rattle.kid_codec.specs.NameSpelling.{is_tag, tag_name}
 use Rattle.kid_codec.specs.Number.{number_of}
 use Rattle.kid_value.specs.Rows.Kinds.{set_of_all, sequence_from, map_from}
 use Rattle.kid_codec.specs.ValueSpelling.{is_spelled_value, are_spelled_values, are_spelled_entries, atom_value, with_entry, with_entries, distinct_entries, value_of_parts, spelled_value, spelled_list, spelled_pair, spelled_values, spelled_entry, key_and_value, spelled_entries}
+use Rattle.kid_codec.proofs.NameLemmas.{tag_told}
 use Rattle.kid_codec.proofs.Found.{same_some, if_some, if_else, mapped, both_some, bind_some, number_from}
 
 abbrev is_spelled_entry : PlainValue × PlainValue → Bool
@@ -62,12 +64,16 @@ entries_kept known (e ∷ es) more a b p =
 
 atom_spelled : (w : List ℕ) (v : PlainValue) → atom_value w ≡ Some v → is_spelled_value v ≡ true
 atom_spelled w v p =
-    let n = option_map int (number_of w) in
+    let m = option_map int (number_of w) in
+    let n = if is_tag w then Some (tag (tag_name w)) else m in
     elim (if_else (bytes_eq w (codes "true")) (Some (bool true)) (if bytes_eq w (codes "false") then Some (bool false) else n) v p) [
       | inl r ↦ ap is_spelled_value (sym (same_some (bool true) v r.1))
       | inr r ↦ elim (if_else (bytes_eq w (codes "false")) (Some (bool false)) n v r.1) [
         | inl q ↦ ap is_spelled_value (sym (same_some (bool false) v q.1))
-        | inr q ↦ let m = mapped int (number_of w) v q.1 in ap is_spelled_value (sym m.2) ∙ (number_from w m.0 m.1).1
+        | inr q ↦ elim (if_else (is_tag w) (Some (tag (tag_name w))) m v q.1) [
+          | inl o ↦ ap is_spelled_value (sym (same_some (tag (tag_name w)) v o.1)) ∙ (tag_told w o.0).1
+          | inr o ↦ let f = mapped int (number_of w) v o.1 in ap is_spelled_value (sym f.2) ∙ (number_from w f.0 f.1).1
+        ]
       ]
     ]
 

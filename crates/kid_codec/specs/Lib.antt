@@ -1,10 +1,14 @@
 pub mod DeclaredSpelling
 pub mod Name
+pub mod NameSpelling
+pub mod NamedValues
 pub mod Number
 pub mod Reading
 pub mod Reserved
 pub mod Shape
 pub mod SortSpelling
+pub mod SpelledExamples
+pub mod SpelledValue
 pub mod Takes
 pub mod TermSpelling
 pub mod ValueSpelling

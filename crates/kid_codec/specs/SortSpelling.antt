@@ -1,12 +1,15 @@
 -- Sorts as trees.
-use Rattle.std.specs.Prelude.{ℕ, ℤ, pos, negsuc, Bool, not, ◌&&◌, List, Option, Some, None, option_map, if◌then◌else◌, codes, Result}
+use Rattle.std.specs.Prelude.{ℕ, ℤ, pos, negsuc, Bool, true, not, ◌&&◌, List, Option, Some, None, option_map, if◌then◌else◌, codes, Result}
 use Rattle.std.specs.Fmt.{signed_decimal}
+use Rattle.std.specs.List.{list_all}
 use Rattle.std.specs.Str.{bytes_eq}
 use Rattle.kid_sexp.specs.Plain.{Plain, Plains, atom, list, none, more, one}
-use Rattle.kid_value.specs.PlainSort.{PlainSort, never, bools, ints, pairs, sets, seqs, maps, has_never}
+use Rattle.kid_value.specs.PlainSort.{PlainSort, never, bools, ints, pairs, sets, seqs, maps, enums, has_never}
 use Rattle.kid_value.specs.SortOrder.{both}
 use Rattle.kid_value.specs.SortCount.{capped}
 use Rattle.kid_value.specs.SortLimits.{is_allowed}
+use Rattle.kid_codec.specs.Name.{is_name}
+use Rattle.kid_codec.specs.NameSpelling.{spelled_names, name_spellings}
 use Rattle.kid_codec.specs.Number.{number_of}
 use Rattle.kid_codec.specs.Reading.{judged}
 use Rattle.kid_codec.specs.declared.fault.CodecFault.{CodecFault}
@@ -27,10 +30,22 @@ sort_spelling (pairs a b) = headed (codes "pair") (more (sort_spelling a) (one (
 sort_spelling (sets a) = headed (codes "set") (one (sort_spelling a))
 sort_spelling (seqs a n) = headed (codes "seq") (more (sort_spelling a) (one (number_tree (pos n))))
 sort_spelling (maps a b) = headed (codes "map") (more (sort_spelling a) (one (sort_spelling b)))
+sort_spelling (enums ns) = headed (codes "enum") (name_spellings ns)
+
+-- whether what the sort's enums list are names
+abbrev pub has_spelled_names : PlainSort → Bool
+has_spelled_names never = true
+has_spelled_names bools = true
+has_spelled_names (ints lo hi) = true
+has_spelled_names (pairs a b) = has_spelled_names a && has_spelled_names b
+has_spelled_names (sets a) = has_spelled_names a
+has_spelled_names (seqs a n) = has_spelled_names a
+has_spelled_names (maps a b) = has_spelled_names a && has_spelled_names b
+has_spelled_names (enums ns) = list_all is_name ns
 
 -- the sorts that have a spelling
 abbrev pub is_spelled_sort : PlainSort → Bool
-is_spelled_sort s = is_allowed s && not (has_never s)
+is_spelled_sort s = is_allowed s && not (has_never s) && has_spelled_names s
 
 abbrev pub spelled_number : Plain → Option ℤ
 spelled_number (atom w) = number_of w
@@ -65,9 +80,9 @@ abbrev mutual
   pub sort_of_list : Plains → Option PlainSort
   sort_of_list none = None
   sort_of_list (more (list us) ts) = None
-  sort_of_list (more (atom w) ts) = sort_of_parts ts w
+  sort_of_list (more (atom w) ts) = if bytes_eq w (codes "enum") then option_map enums (spelled_names ts) else sort_of_parts ts w
 
-  -- what a word makes of the trees after it
+  -- what another word makes of the trees after it
   pub sort_of_parts : Plains → List ℕ → Option PlainSort
   sort_of_parts none w = None
   sort_of_parts (more s none) w = sort_of_one w (spelled_sort s)

@@ -6,11 +6,12 @@ use Rattle.kid_sexp.specs.Plain.{Plain, Plains, atom, list, one, join}
 use Rattle.kid_value.specs.PlainSort.{PlainSort}
 use Rattle.kid_value.specs.SortOrder.{both}
 use Rattle.kid_value.specs.SortLimits.{in_limits, is_allowed}
-use Rattle.kid_term.specs.PlainTerm.{PlainHead, op, call, cast, PlainTerm, var, number, truth, app, bind, PlainTerms, no_term, term, terms, term_row}
+use Rattle.kid_term.specs.PlainTerm.{PlainHead, op, call, cast, PlainTerm, var, number, truth, tag, app, bind, PlainTerms, no_term, term, terms, term_row}
 use Rattle.kid_term.specs.Written.{number_in}
 use Rattle.kid_term.specs.declared.operator.Op.{Op}
 use Rattle.kid_term.specs.declared.operator.Binder.{Binder}
 use Rattle.kid_codec.specs.Name.{is_name}
+use Rattle.kid_codec.specs.NameSpelling.{spelled_name, tag_word, is_tag, tag_name}
 use Rattle.kid_codec.specs.Number.{number_of}
 use Rattle.kid_codec.specs.Reading.{judged, ◌>>=◌}
 use Rattle.kid_codec.specs.SortSpelling.{number_tree, headed, sort_spelling, is_spelled_sort, spelled_sort}
@@ -31,6 +32,7 @@ abbrev mutual
   term_spelling (var x) = atom x
   term_spelling (number n) = number_tree n
   term_spelling (truth b) = atom (truth_word b)
+  term_spelling (tag n) = atom (tag_word n)
   term_spelling (app h ts) = list (join (head_spelling h) (term_spellings ts))
   term_spelling (bind b x s t) = headed (binder_word b) (tree.more (atom x) (tree.more (term_spelling s) (one (term_spelling t))))
 
@@ -60,6 +62,7 @@ abbrev mutual
   is_spelled_term (var x) = is_name x
   is_spelled_term (number n) = in_limits n
   is_spelled_term (truth b) = true
+  is_spelled_term (tag n) = is_name n
   is_spelled_term (app h ts) = is_spelled_head h (terms ts) && are_spelled_terms ts
   is_spelled_term (bind b x s t) = is_name x && is_spelled_term s && is_spelled_term t
 
@@ -78,6 +81,7 @@ abbrev mutual
   casts_are_allowed (var x) = true
   casts_are_allowed (number n) = true
   casts_are_allowed (truth b) = true
+  casts_are_allowed (tag n) = true
   casts_are_allowed (app h ts) = is_allowed_head h && all_casts_are_allowed ts
   casts_are_allowed (bind b x s t) = casts_are_allowed s && casts_are_allowed t
 
@@ -85,13 +89,14 @@ abbrev mutual
   all_casts_are_allowed no_term = true
   all_casts_are_allowed (term t ts) = casts_are_allowed t && all_casts_are_allowed ts
 
--- a name, a truth value or a number
+-- a name, a truth value, a tag or a number
 abbrev pub atom_term : List ℕ → Option PlainTerm
 atom_term w =
     if is_name w then Some (var w)
     else (if bytes_eq w (codes "true") then Some (truth true)
     else (if bytes_eq w (codes "false") then Some (truth false)
-    else option_map number (number_of w)))
+    else (if is_tag w then Some (tag (tag_name w))
+    else option_map number (number_of w))))
 
 -- an operator at terms that it may stand before
 abbrev pub applied : Op → List PlainTerm → Option PlainTerm
@@ -118,10 +123,6 @@ abbrev pub term_of_parts : List ℕ → Option (List PlainTerm) → Option Plain
 term_of_parts w ts cast_term body =
     if is_name w then option_map (called w) ts
     else (if bytes_eq w (codes "cast") then cast_term else headed_by (binder_of w) (op_of w) ts body)
-
-abbrev pub spelled_name : Plain → Option (List ℕ)
-spelled_name (list ts) = None
-spelled_name (atom w) = if is_name w then Some w else None
 
 abbrev pub body_of : Option (List ℕ) → Option PlainTerm → Option PlainTerm → Option (Binder → PlainTerm)
 body_of name set body = name >>= λ x. both (λ s t b. bind b x s t) set body

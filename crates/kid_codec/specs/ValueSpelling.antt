@@ -6,10 +6,12 @@ use Rattle.kid_sexp.specs.Plain.{Plain, Plains, atom, list, one}
 use Rattle.kid_value.specs.PlainSort.{PlainSort, has_sort}
 use Rattle.kid_value.specs.SortOrder.{both}
 use Rattle.kid_value.specs.SortLimits.{in_limits}
-use Rattle.kid_value.specs.PlainValue.{PlainValue, int, bool, pair, set, seq, map_of, PlainValues, none, more, PlainEntries, no_entry, entry, row, table}
+use Rattle.kid_value.specs.PlainValue.{PlainValue, int, bool, pair, set, seq, map_of, tag, PlainValues, none, more, PlainEntries, no_entry, entry, row, table}
 use Rattle.kid_value.specs.ValueMap.{put_entry, keys}
 use Rattle.kid_value.specs.ValueSet.{is_member}
 use Rattle.kid_value.specs.Rows.Kinds.{set_of_all, sequence_from, map_from}
+use Rattle.kid_codec.specs.Name.{is_name}
+use Rattle.kid_codec.specs.NameSpelling.{tag_word, is_tag, tag_name}
 use Rattle.kid_codec.specs.Number.{number_of}
 use Rattle.kid_codec.specs.Reading.{fitting, ◌>>=◌}
 use Rattle.kid_codec.specs.SortSpelling.{number_tree, headed}
@@ -28,6 +30,7 @@ abbrev mutual
   value_spelling (set vs) = headed (codes "set") (value_spellings vs)
   value_spelling (seq vs) = headed (codes "seq") (value_spellings vs)
   value_spelling (map_of es) = headed (codes "map") (entry_spellings es)
+  value_spelling (tag n) = atom (tag_word n)
 
   pub value_spellings : PlainValues → Plains
   value_spellings none = tree.none
@@ -37,7 +40,7 @@ abbrev mutual
   entry_spellings no_entry = tree.none
   entry_spellings (entry k v es) = tree.more (list (tree.more (value_spelling k) (one (value_spelling v)))) (entry_spellings es)
 
--- the values that have a spelling: each integer in them lies within the limits
+-- the values that have a spelling: each integer in them lies within the limits, and each tag is a name
 abbrev mutual
   pub is_spelled_value : PlainValue → Bool
   is_spelled_value (int n) = in_limits n
@@ -46,6 +49,7 @@ abbrev mutual
   is_spelled_value (set vs) = are_spelled_values vs
   is_spelled_value (seq vs) = are_spelled_values vs
   is_spelled_value (map_of es) = are_spelled_entries es
+  is_spelled_value (tag n) = is_name n
 
   pub are_spelled_values : PlainValues → Bool
   are_spelled_values none = true
@@ -56,7 +60,11 @@ abbrev mutual
   are_spelled_entries (entry k v es) = is_spelled_value k && is_spelled_value v && are_spelled_entries es
 
 abbrev pub atom_value : List ℕ → Option PlainValue
-atom_value w = if bytes_eq w (codes "true") then Some (bool true) else (if bytes_eq w (codes "false") then Some (bool false) else option_map int (number_of w))
+atom_value w =
+    if bytes_eq w (codes "true") then Some (bool true)
+    else (if bytes_eq w (codes "false") then Some (bool false)
+    else (if is_tag w then Some (tag (tag_name w))
+    else option_map int (number_of w)))
 
 -- the map with one more entry, unless its key is there already
 abbrev pub with_entry : List (PlainValue × PlainValue) → PlainValue × PlainValue → Option (List (PlainValue × PlainValue))

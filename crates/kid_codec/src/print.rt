@@ -7,7 +7,9 @@ ghost use Rattle.kid_term.specs.TermView.{plain_term, plain_head};
 ghost use Rattle.kid_value.specs.PlainValue.{row, table};
 ghost use Rattle.kid_value.specs.SortView.{plain_sort};
 ghost use Rattle.kid_value.specs.ValueView.{plain, plain_entry};
+ghost use Rattle.kid_codec.specs.NameSpelling.{name_spellings, tag_word};
 ghost use Rattle.kid_codec.specs.SortSpelling.{number_tree, sort_spelling, is_spelled_sort, sort_reading};
+ghost use Rattle.kid_codec.specs.SpelledValue.{Spells};
 ghost use Rattle.kid_codec.specs.TermSpelling.{head_spelling, term_spelling, term_spellings, is_spelled_term, term_reading};
 ghost use Rattle.kid_codec.specs.ValueSpelling.{truth_word, value_spelling, value_spellings, entry_spellings, is_spelled_value, spelled_value};
 
@@ -41,6 +43,17 @@ fn truth_tree(alloc: Global, truth: bool) -> Result<Tree, Memory>
     }
 }
 
+/// An apostrophe and a name.
+fn tag_tree(alloc: Global, name: &[u8]) -> Result<Tree, Memory>
+    ensures { IfOk result (λ t. plain_tree t ≡ atom (tag_word name.now)) }
+{
+    let mut word = Text::from_slice(alloc, b"'")?;
+    for byte in name {
+        word.push(*byte)?;
+    }
+    Ok(Tree::Atom(word))
+}
+
 /// A list that begins with a word.
 fn begun(alloc: Global, word: &[u8]) -> Result<Forest, Memory>
     ensures { IfOk result (λ f. f ≡ one (atom word.now)) }
@@ -57,6 +70,16 @@ fn headed_pair(alloc: Global, word: &[u8], first: Tree, second: Tree) -> Result<
     let mut trees = begun(alloc, word)?;
     trees.push(first)?;
     trees.push(second)?;
+    Ok(Tree::List(trees))
+}
+
+fn names_tree(alloc: Global, names: &[Text]) -> Result<Tree, Memory>
+    ensures { IfOk result (λ t. plain_tree t ≡ list (join (one (atom (codes "enum"))) (name_spellings names.now))) }
+{
+    let mut trees = begun(alloc, b"enum")?;
+    for name in names {
+        trees.push(word_tree(alloc, name.as_slice())?)?;
+    }
     Ok(Tree::List(trees))
 }
 
@@ -91,10 +114,11 @@ fn tree_of_sort(alloc: Global, sort: &Sort) -> Result<Tree, Memory>
             let value = tree_of_sort(alloc, b)?;
             headed_pair(alloc, b"map", key, value)
         }
+        Sort::Enum(names) => names_tree(alloc, names.items()),
     }
 }
 
-/// The tree of a sort, which reads back to it. The sort is an allowed one and holds no `Never`.
+/// The tree of a sort, which reads back to it. The sort is an allowed one, holds no `Never`, and its enums list names.
 ///
 /// # Errors
 ///
@@ -122,6 +146,7 @@ fn tree_of_value(alloc: Global, value: &Value) -> Result<Tree, Memory>
         Value::Set(members) => values_tree(alloc, b"set", members.items()),
         Value::Seq(values) => values_tree(alloc, b"seq", values.items()),
         Value::Map(entries) => entries_tree(alloc, entries.items()),
+        Value::Tag(name) => tag_tree(alloc, name.as_slice()),
     }
 }
 
@@ -160,7 +185,7 @@ fn couple(alloc: Global, first: Tree, second: Tree) -> Result<Tree, Memory>
 }
 
 /// The tree of a value, which reads back to it. Sets and maps ascend. Each integer in the value lies within plus or minus
-/// 4611686018427387904.
+/// 4611686018427387904, and each tag is a name.
 ///
 /// # Errors
 ///
@@ -169,6 +194,7 @@ pub fn value_tree(alloc: Global, value: &Value) -> Result<Tree, Memory>
     requires { is_spelled_value (plain value.now) ≡ true }
     ensures spelling { IfOk result (λ t. plain_tree t ≡ value_spelling (plain value.now)) }
     ensures back { IfOk result (λ t. spelled_value (plain_tree t) ≡ Some (plain value.now)) }
+    ensures spells { IfOk result (λ t. Spells (plain_tree t) (plain value.now)) }
 {
     value.canonical();
     tree_of_value(alloc, value)
@@ -196,6 +222,7 @@ fn tree_of_term(alloc: Global, term: &Term) -> Result<Tree, Memory>
         Term::Var(name) => word_tree(alloc, name.as_slice()),
         Term::Lit(Literal::Int(n)) => number_tree(alloc, *n),
         Term::Lit(Literal::Bool(b)) => truth_tree(alloc, *b),
+        Term::Lit(Literal::Tag(name)) => tag_tree(alloc, name.as_slice()),
         Term::App(head, terms) => {
             let trees = trees_of_head(alloc, head)?;
             terms_tree(alloc, trees, terms.items())
@@ -221,7 +248,7 @@ fn terms_tree(alloc: Global, mut trees: Forest, terms: &[Term]) -> Result<Tree, 
     Ok(Tree::List(trees))
 }
 
-/// The tree of a term, which reads back to it. The names in the term are names, its integers lie within plus or minus
+/// The tree of a term, which reads back to it. The names and tags in the term are names, its integers lie within plus or minus
 /// 4611686018427387904, its operators stand before as many arguments as they take, with literals where they take numbers that
 /// are written, and it casts one term each to a sort that is allowed and holds no `Never`.
 ///

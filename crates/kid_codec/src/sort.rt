@@ -1,14 +1,16 @@
 ghost use Rattle.std.specs.Prelude.{◌≡◌, true, IfOk, option_map};
 ghost use Rattle.kid_sexp.specs.Tree.{plain, plains};
 ghost use Rattle.kid_value.specs.SortView.{plain_sort};
+ghost use Rattle.kid_codec.specs.NameSpelling.{spelled_names};
 ghost use Rattle.kid_codec.specs.Reading.{Gives, Finds};
-ghost use Rattle.kid_value.specs.PlainSort.{ints, seqs};
+ghost use Rattle.kid_value.specs.PlainSort.{ints, seqs, enums};
 ghost use Rattle.kid_value.specs.SortOrder.{both};
 ghost use Rattle.kid_codec.specs.SortSpelling.{bound_from, spelled_number, spelled_bound, spelled_sort, sort_of_list, sort_of_parts, sort_of_one, sort_of_two, sort_spelling, is_spelled_sort, sort_reading};
 
 use crate::fault::CodecFault;
 use crate::number::number_of;
 use crate::parts::{couple, single};
+use crate::tree_name::spelled_names;
 use kid_sexp::Tree;
 use kid_value::{Sort, Text, sort_ok};
 use std::alloc::Global;
@@ -68,9 +70,19 @@ fn sort_of_list(alloc: Global, trees: &[Tree]) -> Result<Sort, CodecFault>
     ensures { Finds plain_sort result (sort_of_list (plains trees.now)) }
 {
     match trees.split_first() {
-        Some((Tree::Atom(word), parts)) => sort_of_parts(alloc, word, parts),
+        Some((Tree::Atom(word), parts)) => if word.is(b"enum") {
+            enum_sort(alloc, parts)
+        } else {
+            sort_of_parts(alloc, word, parts)
+        },
         _ => Err(CodecFault::Form),
     }
+}
+
+fn enum_sort(alloc: Global, trees: &[Tree]) -> Result<Sort, CodecFault>
+    ensures { Finds plain_sort result (option_map enums (spelled_names (plains trees.now))) }
+{
+    Ok(Sort::Enum(spelled_names(alloc, trees)?))
 }
 
 #[cycle(spelled_sort)]
@@ -143,12 +155,12 @@ fn sort_of_two(alloc: Global, word: &Text, first: &Tree, second: &Tree) -> Resul
     Err(CodecFault::Form)
 }
 
-/// The sort that a tree spells: `bool`, `(int lo hi)`, `(pair A B)`, `(set A)`, `(seq A n)` or `(map A B)`.
+/// The sort that a tree spells: `bool`, `(int lo hi)`, `(pair A B)`, `(set A)`, `(seq A n)`, `(map A B)` or `(enum NAME ..)`.
 ///
 /// # Errors
 ///
-/// `Form`: the tree has no such shape. `Sort`: it has, and the sort is not allowed, as where `lo` is greater than `hi` or `n`
-/// is not from 0 to 65536. `Memory`: memory is wanting.
+/// `Form`: the tree has no such shape. `Sort`: it has, and the sort is not allowed, as where `lo` is greater than `hi`, `n`
+/// is not from 0 to 65536, or the names are none, more than 64 or do not ascend. `Memory`: memory is wanting.
 pub fn sort_from(alloc: Global, tree: &Tree) -> Result<Sort, CodecFault>
     ensures reading { Gives plain_sort result (sort_reading (plain tree.now)) }
     // So the tree is the one that is printed for the sort.

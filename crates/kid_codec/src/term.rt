@@ -4,15 +4,17 @@ ghost use Rattle.kid_term.specs.PlainTerm.{term_row};
 ghost use Rattle.kid_value.specs.SortOrder.{both};
 ghost use Rattle.kid_term.specs.TermView.{plain_term, plain_head};
 ghost use Rattle.kid_term.specs.Written.{number_in};
+ghost use Rattle.kid_codec.specs.NameSpelling.{spelled_name};
 ghost use Rattle.kid_codec.specs.Reading.{Gives, Finds};
 ghost use Rattle.kid_codec.specs.SortSpelling.{spelled_sort as spelled_sort_of};
-ghost use Rattle.kid_codec.specs.TermSpelling.{atom_term, applied, suits, begin_with_numbers, term_of_parts, spelled_name, spelled_term, spelled_list, spelled_terms, spelled_cast, casted, body_of, spelled_body, is_allowed_head, casts_are_allowed, all_casts_are_allowed, term_spelling, is_spelled_term, term_reading};
+ghost use Rattle.kid_codec.specs.TermSpelling.{atom_term, applied, suits, begin_with_numbers, term_of_parts, spelled_term, spelled_list, spelled_terms, spelled_cast, casted, body_of, spelled_body, is_allowed_head, casts_are_allowed, all_casts_are_allowed, term_spelling, is_spelled_term, term_reading};
 
 use crate::fault::CodecFault;
 use crate::name::is_name;
 use crate::number::number_of;
 use crate::parts::{couple, triple};
 use crate::sort::spelled_sort;
+use crate::tree_name::{spelled_name, tag_name};
 use crate::word::{binder_of, numbers_first, op_of, takes};
 use kid_sexp::Tree;
 use kid_term::{Binder, BoxedTerm, Head, Literal, Op, Term, Terms};
@@ -31,27 +33,12 @@ fn atom_term(alloc: Global, word: &Text) -> Result<Term, CodecFault>
     if word.is(b"false") {
         return Ok(Term::Lit(Literal::Bool(false)));
     }
+    if let Some(name) = tag_name(word.as_slice()) {
+        return Ok(Term::Lit(Literal::Tag(Text::from_slice(alloc, name)?)));
+    }
     match number_of(word.as_slice()) {
         Some(n) => Ok(Term::Lit(Literal::Int(n))),
         None => Err(CodecFault::Form),
-    }
-}
-
-/// The name that a tree is.
-///
-/// # Errors
-///
-/// `Form`: the tree is no name. `Memory`: memory is wanting.
-pub fn spelled_name(alloc: Global, tree: &Tree) -> Result<Text, CodecFault>
-    ensures { Finds (λ x. x) result (spelled_name (plain tree.now)) }
-{
-    match tree {
-        Tree::Atom(word) => if is_name(word.as_slice()) {
-            Ok(word.copy(alloc)?)
-        } else {
-            Err(CodecFault::Form)
-        },
-        Tree::List(_) => Err(CodecFault::Form),
     }
 }
 
@@ -235,7 +222,7 @@ fn all_casts_are_allowed(terms: &[Term]) -> bool
     true
 }
 
-/// The term that a tree spells: a name, a number, `true`, `false`, an operator or a definition before its arguments,
+/// The term that a tree spells: a name, a number, `true`, `false`, a tag as `'red`, an operator or a definition before its arguments,
 /// `(cast A t)`, or a binder as `(all x S t)`.
 ///
 /// # Errors

@@ -1,21 +1,24 @@
 ghost use Rattle.std.specs.Prelude.{◌≡◌, true, IfOk, option_map};
 ghost use Rattle.kid_sexp.specs.Tree.{plain as plain_tree, plains};
 ghost use Rattle.kid_value.specs.SortOrder.{both};
-ghost use Rattle.kid_value.specs.PlainValue.{pair};
+ghost use Rattle.kid_value.specs.PlainSort.{has_sort};
+ghost use Rattle.kid_value.specs.PlainValue.{PlainValue, pair};
 ghost use Rattle.kid_value.specs.SortView.{plain_sort};
 ghost use Rattle.kid_value.specs.ValueSet.{set_of};
 ghost use Rattle.kid_value.specs.ValueView.{plain, plain_entry};
 ghost use Rattle.kid_codec.specs.Reading.{Gives, Finds};
+ghost use Rattle.kid_codec.specs.SpelledValue.{Spells, TellsValue, IsReadAs};
 ghost use Rattle.kid_codec.specs.ValueSpelling.{atom_value, with_entry, distinct_entries, value_of_parts, spelled_value, spelled_list, spelled_pair, spelled_values, spelled_entry, key_and_value, spelled_entries, is_spelled_value, value_reading};
 
 use crate::fault::CodecFault;
 use crate::number::number_of;
 use crate::parts::couple;
+use crate::tree_name::tag_name;
 use kid_sexp::Tree;
 use kid_value::{Entries, Members, Sort, Text, Value, Values, has_sort};
 use std::alloc::Global;
 
-fn atom_value(word: &Text) -> Result<Value, CodecFault>
+fn atom_value(alloc: Global, word: &Text) -> Result<Value, CodecFault>
     ensures { Finds plain result (atom_value word.now) }
 {
     if word.is(b"true") {
@@ -23,6 +26,9 @@ fn atom_value(word: &Text) -> Result<Value, CodecFault>
     }
     if word.is(b"false") {
         return Ok(Value::Bool(false));
+    }
+    if let Some(name) = tag_name(word.as_slice()) {
+        return Ok(Value::Tag(Text::from_slice(alloc, name)?));
     }
     match number_of(word.as_slice()) {
         Some(n) => Ok(Value::Int(n)),
@@ -35,7 +41,7 @@ fn spelled_value(alloc: Global, tree: &Tree) -> Result<Value, CodecFault>
     ensures { Finds plain result (spelled_value (plain_tree tree.now)) }
 {
     match tree {
-        Tree::Atom(word) => atom_value(word),
+        Tree::Atom(word) => atom_value(alloc, word),
         Tree::List(trees) => value_of_list(alloc, trees.as_slice()),
     }
 }
@@ -168,15 +174,9 @@ fn entries_from(alloc: Global, trees: &[Tree]) -> Result<Entries, CodecFault>
     Ok(entries)
 }
 
-/// The value of a sort that a tree spells: a number, `true`, `false`, `(pair a b)`, `(set a ..)`, `(seq a ..)` or
-/// `(map (k v) ..)`. Members and entries may stand in any order, and a member may be repeated.
-///
-/// # Errors
-///
-/// `Form`: the tree spells no value of the sort. A map with a key twice is none. `Memory`: memory is wanting.
-pub fn value_of(alloc: Global, tree: &Tree, sort: &Sort) -> Result<Value, CodecFault>
-    ensures reading { Gives plain result (value_reading (plain_sort sort.now) (plain_tree tree.now)) }
-    ensures spelled { IfOk result (λ v. is_spelled_value (plain v) ≡ true) }
+/// What is read, if it is of the sort.
+fn value_in_sort(alloc: Global, tree: &Tree, sort: &Sort) -> Result<Value, CodecFault>
+    ensures { Gives plain result (value_reading (plain_sort sort.now) (plain_tree tree.now)) }
 {
     let value = spelled_value(alloc, tree)?;
     if has_sort(&value, sort) {
@@ -184,4 +184,20 @@ pub fn value_of(alloc: Global, tree: &Tree, sort: &Sort) -> Result<Value, CodecF
     } else {
         Err(CodecFault::Form)
     }
+}
+
+/// The value of a sort that a tree spells: a number, `true`, `false`, a tag as `'red`, `(pair a b)`, `(set a ..)`, `(seq a ..)`
+/// or `(map (k v) ..)`. Members and entries may stand in any order, and a member may be repeated.
+///
+/// # Errors
+///
+/// `Form`: the tree spells no value of the sort. A map with a key twice is none. `Memory`: memory is wanting.
+pub fn value_of(alloc: Global, tree: &Tree, sort: &Sort) -> Result<Value, CodecFault>
+    ensures reading { Gives plain result (value_reading (plain_sort sort.now) (plain_tree tree.now)) }
+    ensures spelled { IfOk result (λ v. is_spelled_value (plain v) ≡ true) }
+    // By what the tree spells, which no step of a reader defines.
+    ensures told { TellsValue (plain_sort sort.now) (plain_tree tree.now) result }
+    ensures read { (v : PlainValue) → Spells (plain_tree tree.now) v → has_sort (plain_sort sort.now) v ≡ true → IsReadAs v result }
+{
+    value_in_sort(alloc, tree, sort)
 }

@@ -1,7 +1,8 @@
 //! Reads a text and prints what was read, or tells its fault. `None` is want of memory, or a text that is no tree where the test
 //! needs one.
 use kid_codec::{
-    CodecFault, is_name, number_of, sort_from, sort_tree, term_of, term_tree, value_of, value_tree,
+    CodecFault, is_name, number_of, sort_from, sort_has_tags, sort_tree, term_has_tags, term_of,
+    term_tree, value_of, value_tree,
 };
 use kid_sexp::{Forest, Tree, print, read};
 use kid_value::Sort;
@@ -54,6 +55,17 @@ pub fn term_back(alloc: Global, text: &str) -> Option<Vec<u8>> {
     let term = term_of(alloc, &tree).ok()?;
     let tree = term_tree(alloc, &term).ok()?;
     printed(alloc, tree)
+}
+
+pub fn sort_holds_tags(alloc: Global, text: &str) -> Option<bool> {
+    let sort = sort(alloc, text)?;
+    Some(sort_has_tags(&sort))
+}
+
+pub fn term_holds_tags(alloc: Global, text: &str) -> Option<bool> {
+    let tree = tree(alloc, text)?;
+    let term = term_of(alloc, &tree).ok()?;
+    Some(term_has_tags(&term))
 }
 
 /// Whether this text was printed.

@@ -1,7 +1,7 @@
 //! Texts that are read and printed back, and texts that are refused.
 use crate::back::{
-    is_fault, is_named, is_text, number, sort_back, sort_fault, term_back, term_fault, value_back,
-    value_fault,
+    is_fault, is_named, is_text, number, sort_back, sort_fault, sort_holds_tags, term_back,
+    term_fault, term_holds_tags, value_back, value_fault,
 };
 use kid_codec::CodecFault;
 use std::alloc::Global;
@@ -56,6 +56,20 @@ fn values_have_no_form(rt: &impl Abort, alloc: Global, cases: &[(&str, &str)]) {
             is_fault(value_fault(alloc, sort, value), CodecFault::Form),
             "at {value}"
         );
+    }
+}
+
+fn sorts_hold_tags(rt: &impl Abort, alloc: Global, cases: &[(&str, bool)]) {
+    for case in cases {
+        let (sort, want) = *case;
+        assert!(rt; sort_holds_tags(alloc, sort) == Some(want), "at {sort}");
+    }
+}
+
+fn terms_hold_tags(rt: &impl Abort, alloc: Global, cases: &[(&str, bool)]) {
+    for case in cases {
+        let (term, want) = *case;
+        assert!(rt; term_holds_tags(alloc, term) == Some(want), "at {term}");
     }
 }
 
@@ -303,4 +317,161 @@ const REFUSED_WORDS_AND_ROWS: [&str; 15] = [
 #[test]
 fn refuses_operators_on_words_and_rows(rt: HostRuntime) {
     terms_have_no_form(&rt, rt.alloc(), &REFUSED_WORDS_AND_ROWS);
+}
+
+const ENUMS: [&str; 4] = [
+    "(enum red)\n",
+    "(enum blue enum red)\n",
+    "(enum a a-b ab abc b)\n",
+    "(map (int 1 50) (enum blue red))\n",
+];
+
+#[test]
+fn reads_enums_back(rt: HostRuntime) {
+    sorts_read_back(&rt, rt.alloc(), &ENUMS);
+}
+
+const REFUSED_ENUMS: [(&str, CodecFault); 13] = [
+    ("enum", CodecFault::Form),
+    ("(enum Red)", CodecFault::Form),
+    ("(enum 'red)", CodecFault::Form),
+    ("(enum true)", CodecFault::Form),
+    ("(enum red e1)", CodecFault::Form),
+    ("(enum red red 1)", CodecFault::Form),
+    ("(enum (red))", CodecFault::Form),
+    ("(enum)", CodecFault::Sort),
+    ("(enum red blue)", CodecFault::Sort),
+    ("(enum red red)", CodecFault::Sort),
+    ("(enum ab a)", CodecFault::Sort),
+    ("(set (enum))", CodecFault::Sort),
+    ("(pair (enum blue red blue) bool)", CodecFault::Sort),
+];
+
+#[test]
+fn refuses_enums(rt: HostRuntime) {
+    sorts_fail(&rt, rt.alloc(), &REFUSED_ENUMS);
+}
+
+/// Two letters each: 64 names, and then one more.
+const MANY_NAMES: [&str; 1] = [
+    "(enum cs ct cu cv cw cx cy cz ds dt du dv dw dx dy dz fs ft fu fv fw fx fy fz gs gt gu gv gw gx gy gz hs ht hu hv hw hx hy hz js jt ju jv jw jx jy jz ks kt ku kv kw kx ky kz ns nt nu nv nw nx ny nz)\n",
+];
+
+#[test]
+fn reads_64_names(rt: HostRuntime) {
+    sorts_read_back(&rt, rt.alloc(), &MANY_NAMES);
+}
+
+const TOO_MANY_NAMES: [(&str, CodecFault); 1] = [(
+    "(enum cs ct cu cv cw cx cy cz ds dt du dv dw dx dy dz fs ft fu fv fw fx fy fz gs gt gu gv gw gx gy gz hs ht hu hv hw hx hy hz js jt ju jv jw jx jy jz ks kt ku kv kw kx ky kz ns nt nu nv nw nx ny nz q)",
+    CodecFault::Sort,
+)];
+
+#[test]
+fn refuses_65_names(rt: HostRuntime) {
+    sorts_fail(&rt, rt.alloc(), &TOO_MANY_NAMES);
+}
+
+const TAGS: [(&str, &str, &str); 4] = [
+    ("(enum blue red)", "'red", "'red\n"),
+    (
+        "(set (enum a a-b ab))",
+        "(set 'ab 'a-b 'ab 'a)",
+        "(set 'a 'a-b 'ab)\n",
+    ),
+    (
+        "(map (enum blue red) bool)",
+        "(map ('red true) ('blue false))",
+        "(map ('blue false) ('red true))\n",
+    ),
+    (
+        "(pair (enum enum) bool)",
+        "(pair 'enum true)",
+        "(pair 'enum true)\n",
+    ),
+];
+
+#[test]
+fn reads_tags(rt: HostRuntime) {
+    values_read(&rt, rt.alloc(), &TAGS);
+}
+
+const REFUSED_TAGS: [(&str, &str); 10] = [
+    ("(enum blue red)", "red"),
+    ("(enum blue red)", "'green"),
+    ("(enum blue red)", "'"),
+    ("(enum blue red)", "''red"),
+    ("(enum blue red)", "'Red"),
+    ("(enum blue red)", "'red'"),
+    ("(enum blue red)", "('red)"),
+    ("(enum blue red)", "1"),
+    ("bool", "'true"),
+    ("(map (enum a b) bool)", "(map ('a true) ('a true))"),
+];
+
+#[test]
+fn refuses_tags(rt: HostRuntime) {
+    values_have_no_form(&rt, rt.alloc(), &REFUSED_TAGS);
+}
+
+const TERMS_WITH_TAGS: [&str; 5] = [
+    "'red\n",
+    "(eq x 'red)\n",
+    "(enum 'a b)\n",
+    "(cast (enum blue red) (f 'blue))\n",
+    "(all x (set 'blue 'red) (in x enum))\n",
+];
+
+#[test]
+fn reads_terms_with_tags_back(rt: HostRuntime) {
+    terms_read_back(&rt, rt.alloc(), &TERMS_WITH_TAGS);
+}
+
+const REFUSED_TERMS_WITH_TAGS: [(&str, CodecFault); 8] = [
+    ("'", CodecFault::Form),
+    ("'true", CodecFault::Form),
+    ("'e1", CodecFault::Form),
+    ("'Red", CodecFault::Form),
+    ("('f x)", CodecFault::Form),
+    ("(all 'x s true)", CodecFault::Form),
+    ("(cast (enum 'a) x)", CodecFault::Form),
+    ("(cast (enum b a) x)", CodecFault::Sort),
+];
+
+#[test]
+fn refuses_terms_with_tags(rt: HostRuntime) {
+    terms_fail(&rt, rt.alloc(), &REFUSED_TERMS_WITH_TAGS);
+}
+
+const SORTS_WITH_TAGS: [(&str, bool); 9] = [
+    ("bool", false),
+    ("(int 1 2)", false),
+    ("(pair bool (set (int 1 2)))", false),
+    ("(enum a)", true),
+    ("(set (enum a))", true),
+    ("(seq (enum a) 3)", true),
+    ("(map bool (enum a))", true),
+    ("(map (enum a) bool)", true),
+    ("(pair bool (set (enum a)))", true),
+];
+
+#[test]
+fn tells_sorts_with_tags(rt: HostRuntime) {
+    sorts_hold_tags(&rt, rt.alloc(), &SORTS_WITH_TAGS);
+}
+
+const TERMS_THAT_HOLD_TAGS: [(&str, bool); 8] = [
+    ("x", false),
+    ("(f true 1 (cast bool x))", false),
+    ("(all x s (in x t))", false),
+    ("'a", true),
+    ("(f x 'a)", true),
+    ("(cast (set (enum a)) x)", true),
+    ("(all x (set 'a) true)", true),
+    ("(all x s (eq x 'a))", true),
+];
+
+#[test]
+fn tells_terms_with_tags(rt: HostRuntime) {
+    terms_hold_tags(&rt, rt.alloc(), &TERMS_THAT_HOLD_TAGS);
 }

@@ -9,7 +9,7 @@ use Rattle.std.proofs.lemmas.Int.{ints as int_rules}
 use Rattle.std.proofs.lemmas.Bool.Decides.{nat_tests}
 use Rattle.std.proofs.lemmas.Nat.{mul-add-lt}
 use Rattle.std.proofs.Math.Nat.{mul-le-mul_right}
-use Rattle.kid_value.specs.NameSet.{name_cmp, is_among}
+use Rattle.kid_value.specs.NameSet.{is_among}
 use Rattle.kid_value.specs.PlainValue.{PlainValue, int, bool, pair, set, seq, map_of, tag, PlainValues, PlainEntries, no_entry, entry, items, entries}
 use Rattle.kid_value.specs.PlainSort.{PlainSort, never, bools, ints, pairs, sets, seqs, maps, enums, has_sort}
 use Rattle.kid_value.specs.SortLimits.{sort_depth, is_bounded, is_allowed}

@@ -7,15 +7,15 @@ use Rattle.kid_value.specs.PlainValue.{PlainValue, int, bool, pair, set, seq, ma
 use Rattle.kid_value.specs.Rows.Kinds.{set_from, set_of_all, sequence_from, map_from}
 use Rattle.kid_value.specs.Rows.Map as map_rows
 use Rattle.kid_value.specs.ValueMap.{keys, put_entry, put_entry_by}
-use Rattle.kid_value.specs.ValueOrder.{Before, value_cmp}
-use Rattle.kid_value.specs.ValueSet.{AllAfter, Ascends, put, put_by, union, set_of}
+use Rattle.kid_value.specs.ValueOrder.{Before}
+use Rattle.kid_value.specs.ValueSet.{AllAfter, Ascends, put, put_by, set_of}
 use Rattle.kid_value.specs.ValueView.{plain, plain_entry}
 use Rattle.kid_value.specs.declared.memory.Memory.{Memory}
 use Rattle.kid_value.specs.declared.value.Value.{Value}
 use Rattle.kid_value.proofs.PlaceLemmas.{greater-before}
 use Rattle.kid_value.proofs.RowLemmas.{row_items, entries_table, table_entries}
 use Rattle.kid_term.specs.Eval.{Env, Calls, eval, evals}
-use Rattle.kid_term.specs.PlainTerm.{PlainTerm, PlainTerms, term, term_row}
+use Rattle.kid_term.specs.PlainTerm.{PlainTerm, term, term_row}
 use Rattle.kid_term.specs.Quote.{empty_map, quote, quotes, all_put}
 use Rattle.kid_term.specs.Quote as spec
 use Rattle.kid_term.specs.Substitution.{mentions, some_mentions}

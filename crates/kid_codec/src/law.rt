@@ -1,0 +1,18 @@
+//! Laws of what trees spell, each the contract of a function that does nothing.
+ghost use Rattle.kid_codec.specs.SpelledExamples.{SpelledExamples};
+ghost use Rattle.kid_codec.specs.SpelledValue.{SpellsOnce, SpellsCanonical};
+
+/// A tree spells one value at most.
+pub fn values_are_spelled_once()
+    ensures { SpellsOnce }
+{}
+
+/// In a value that a tree spells the sets ascend, at any depth, and the maps by their keys.
+pub fn spelled_values_are_canonical()
+    ensures { SpellsCanonical }
+{}
+
+/// `(set 2 1 2)` spells the set of 1 and 2, and `(map (1 2) (1 2))` spells no value.
+pub fn spelled_values_by_example()
+    ensures { SpelledExamples }
+{}
