@@ -1,7 +1,7 @@
 //! What the tests build: values that a table states, as terms and as values, and sorts.
 use kid_sorting::SortFault;
 use kid_term::{Head, Literal, MapOp, Op, PairOp, SeqOp, SetOp, Term, Terms};
-use kid_value::{Entries, Members, Names, Sort, Text, Value, Values};
+use kid_value::{Entries, Members, Names, Sort, Text, Texts, Value, Values};
 use std::alloc::Global;
 
 /// A value that stands in a table.
@@ -18,6 +18,7 @@ pub enum Made<'a> {
     Sets(&'a [(i64, &'a [i64])]),
     /// A sequence of sequences of at most one item.
     Row(&'a [Option<i64>]),
+    Tag(&'a str),
 }
 
 /// A sort that stands in a table.
@@ -27,6 +28,15 @@ pub enum Of {
     Int(i64, i64),
     Set(i64, i64),
     Seq(i64, i64, u32),
+    Enum(&'static [&'static str]),
+}
+
+fn enum_of(alloc: Global, words: &[&str]) -> Result<Sort, SortFault> {
+    let mut names = Texts::new(alloc);
+    for word in words {
+        names.push(text(alloc, word)?)?;
+    }
+    Ok(Sort::Enum(names))
 }
 
 /// The sort.
@@ -39,6 +49,7 @@ pub fn sort(alloc: Global, of: Of) -> Result<Sort, SortFault> {
             item: Box::new(alloc, Sort::Int { lo, hi })?,
             bound,
         }),
+        Of::Enum(names) => enum_of(alloc, names),
     }
 }
 
@@ -168,6 +179,7 @@ pub fn term(alloc: Global, made: Made) -> Result<Term, SortFault> {
         Made::Map(entries) => map_term(alloc, entries),
         Made::Sets(entries) => sets_term(alloc, entries),
         Made::Row(cells) => row_term(alloc, cells),
+        Made::Tag(name) => Ok(Term::Lit(Literal::Tag(text(alloc, name)?))),
     }
 }
 
@@ -255,6 +267,7 @@ pub fn value(alloc: Global, made: Made) -> Result<Value, SortFault> {
         Made::Map(entries) => map_value(alloc, entries),
         Made::Sets(entries) => sets_value(alloc, entries),
         Made::Row(cells) => row_value(alloc, cells),
+        Made::Tag(name) => Ok(Value::Tag(text(alloc, name)?)),
     }
 }
 

@@ -21,7 +21,9 @@ fn casts_give(rt: &impl Abort, alloc: Global, rows: &[(Of, Made, Made)]) {
     }
 }
 
-const CASTS: [(Of, Made, Made); 8] = [
+const COLOURS: Of = Of::Enum(&["blue", "red"]);
+
+const CASTS: [(Of, Made, Made); 12] = [
     (Of::Int(1, 3), Made::Int(7), Made::Int(1)),
     (Of::Int(1, 3), Made::Int(3), Made::Int(3)),
     (Of::Int(1, 3), Made::Int(0), Made::Int(1)),
@@ -30,6 +32,10 @@ const CASTS: [(Of, Made, Made); 8] = [
     (Of::Set(1, 3), Made::Set(&[1, 7]), Made::Set(&[])),
     (Of::Seq(1, 3, 2), Made::Seq(&[3, 3]), Made::Seq(&[3, 3])),
     (Of::Seq(1, 3, 1), Made::Seq(&[3, 3]), Made::Seq(&[])),
+    (COLOURS, Made::Tag("red"), Made::Tag("red")),
+    (COLOURS, Made::Tag("green"), Made::Tag("blue")),
+    (COLOURS, Made::Int(1), Made::Tag("blue")),
+    (Of::Int(1, 3), Made::Tag("red"), Made::Int(1)),
 ];
 
 #[test]
@@ -92,13 +98,14 @@ fn inside(
 }
 
 /// Of two equal names the first is the inner one.
-const KNOWN: [(&str, Of, Made); 6] = [
+const KNOWN: [(&str, Of, Made); 7] = [
     ("x", Of::Int(-9, 9), Made::Int(4)),
     ("s", Of::Set(-9, 9), Made::Set(&[1, 2])),
     ("x", Of::Int(-9, 9), Made::Int(5)),
     ("q", Of::Seq(-9, 9, 3), Made::Seq(&[1, 2])),
     ("e", Of::Set(-9, 9), Made::Set(&[])),
     ("p", Of::Truth, Made::Truth(true)),
+    ("c", COLOURS, Made::Tag("red")),
 ];
 
 fn name_is(alloc: Global, name: &str, want: Made) -> bool {
@@ -115,12 +122,13 @@ fn names_are(rt: &impl Abort, alloc: Global, rows: &[(&str, Made)]) {
     }
 }
 
-const VALUES: [(&str, Made); 5] = [
+const VALUES: [(&str, Made); 6] = [
     ("x", Made::Int(4)),
     ("s", Made::Set(&[1, 2])),
     ("q", Made::Seq(&[1, 2])),
     ("e", Made::Set(&[])),
     ("p", Made::Truth(true)),
+    ("c", Made::Tag("red")),
 ];
 
 #[test]

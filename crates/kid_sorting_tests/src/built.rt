@@ -1,7 +1,7 @@
 //! What the tests build. A term may be given as it was built, so that a test has no error of its own to hand on.
 use kid_sorting::SortFault;
 use kid_term::{Head, Literal, NumberOp, Op, Term, Terms};
-use kid_value::{Names, Sort, Text};
+use kid_value::{Names, Sort, Text, Texts};
 use std::alloc::Global;
 
 /// A sort of which others are made.
@@ -115,6 +115,19 @@ pub fn var(alloc: Global, word: &str) -> Result<Term, SortFault> {
 
 pub fn number(n: i64) -> Term {
     Term::Lit(Literal::Int(n))
+}
+
+pub fn tag(alloc: Global, word: &str) -> Result<Term, SortFault> {
+    Ok(Term::Lit(Literal::Tag(text(alloc, word)?)))
+}
+
+/// The enum of these names.
+pub fn enum_of(alloc: Global, words: &[&str]) -> Result<Sort, SortFault> {
+    let mut names = Texts::new(alloc);
+    for word in words {
+        names.push(text(alloc, word)?)?;
+    }
+    Ok(Sort::Enum(names))
 }
 
 fn push_numbers(terms: &mut Terms, numbers: Numbers) -> Result<(), SortFault> {

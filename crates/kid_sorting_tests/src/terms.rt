@@ -1,9 +1,11 @@
 //! Terms with binders, calls and casts, and the limits of terms.
-use crate::built::{Made, Part, names, negations, number, one, push, sort, text, var};
+use crate::built::{
+    Made, Part, enum_of, names, negations, number, one, push, sort, tag, text, var,
+};
 use crate::over::sorted;
 use kid_sorting::{Signature, SortFault, sort_of, sort_over};
-use kid_term::{Binder, BoxedTerm, Def, Head, LogicOp, NumberOp, Op, Term, Terms};
-use kid_value::{Names, Sort, Text};
+use kid_term::{Binder, BoxedTerm, Def, Head, Literal, LogicOp, NumberOp, Op, SetOp, Term, Terms};
+use kid_value::{Names, Sort, Text, subsort};
 use std::alloc::Global;
 use std::process::Abort;
 
@@ -305,4 +307,80 @@ fn tells_the_fault_of_a_head(rt: HostRuntime) {
     assert!(rt; fails(alloc, conjunction(alloc), SortFault::Kind));
     assert!(rt; fails(alloc, cast(alloc), SortFault::Bounds));
     assert!(rt; fails(alloc, beyond(alloc), SortFault::Bounds));
+}
+
+// an operator at tags
+fn at_tags(alloc: Global, op: Op, words: &[&str]) -> Result<Term, SortFault> {
+    let mut args = Terms::new(alloc);
+    for word in words {
+        push(&mut args, tag(alloc, word))?;
+    }
+    Ok(Term::App(Head::Op(op), args))
+}
+
+// the set of the tags whose names are one byte each, so many
+fn many_tags(alloc: Global, count: u8) -> Result<Term, SortFault> {
+    let mut args = Terms::new(alloc);
+    for byte in 0..count {
+        let name = Text::from_slice(alloc, &[byte])?;
+        args.push(Term::Lit(Literal::Tag(name)))?;
+    }
+    Ok(Term::App(Head::Op(Op::Set(SetOp::Set)), args))
+}
+
+fn is_enum(alloc: Global, sort: &Sort, words: &[&str]) -> bool {
+    match enum_of(alloc, words) {
+        Ok(wanted) => subsort(sort, &wanted) && subsort(&wanted, sort),
+        Err(_) => false,
+    }
+}
+
+fn has_enum(alloc: Global, term: Result<Term, SortFault>, words: &[&str]) -> bool {
+    match found(alloc, term) {
+        Ok(sort) => is_enum(alloc, &sort, words),
+        Err(_) => false,
+    }
+}
+
+fn has_enum_set(alloc: Global, term: Result<Term, SortFault>, words: &[&str]) -> bool {
+    match found(alloc, term) {
+        Ok(Sort::Set(element)) => is_enum(alloc, &element, words),
+        _ => false,
+    }
+}
+
+fn found(alloc: Global, term: Result<Term, SortFault>) -> Result<Sort, SortFault> {
+    sorted(alloc, &Names::new(alloc), &term?)
+}
+
+#[test]
+fn sorts_tags(rt: HostRuntime) {
+    let alloc = rt.alloc();
+    let equal = Op::Logic(LogicOp::Eq);
+    let set = Op::Set(SetOp::Set);
+    assert!(rt; has_enum(alloc, tag(alloc, "red"), &["red"]));
+    assert!(rt;
+        has_enum_set(
+            alloc,
+            at_tags(alloc, set, &["red", "blue", "red"]),
+            &["blue", "red"]
+        )
+    );
+    assert!(rt;
+        matches!(
+            found(alloc, at_tags(alloc, equal, &["red", "blue"])),
+            Ok(Sort::Bool)
+        )
+    );
+    let less = two(alloc, NumberOp::Lt, tag(alloc, "a"), tag(alloc, "b"));
+    assert!(rt; fails(alloc, less, SortFault::Kind));
+    let mixed = two(alloc, NumberOp::Add, tag(alloc, "a"), Ok(number(1)));
+    assert!(rt; fails(alloc, mixed, SortFault::Kind));
+}
+
+#[test]
+fn sorts_at_most_64_tags(rt: HostRuntime) {
+    let alloc = rt.alloc();
+    assert!(rt; matches!(found(alloc, many_tags(alloc, 64)), Ok(Sort::Set(_))));
+    assert!(rt; fails(alloc, many_tags(alloc, 65), SortFault::Bounds));
 }
