@@ -68,6 +68,10 @@ abbrev pub HasEntry : PlainValue → PlainValue → List (PlainValue × PlainVal
 HasEntry k v [] = ⊥
 HasEntry k v (e ∷ es) = (e ≡ (k, v)) ⊎ HasEntry k v es
 
+pub not_known : (k v : PlainValue) (es : List (PlainValue × PlainValue)) → (None ≡ Some v) ⊎ HasEntry k v es → HasEntry k v es
+not_known k v es (inl p) = cc
+not_known k v es (inr q) = q
+
 -- each entry's key is new to what is known with those before it
 abbrev pub AreNew : List (PlainValue × PlainValue) → List (PlainValue × PlainValue) → Type 0
 AreNew known [] = Unit {0}

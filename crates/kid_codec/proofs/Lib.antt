@@ -22,3 +22,4 @@ pub mod ValueTold
 pub mod Words
 pub mod Shapes
 pub mod SortedCasts
+pub mod SortedSpelled

@@ -9,7 +9,7 @@ use Rattle.kid_value.specs.SortOrder.{both}
 use Rattle.kid_value.specs.SortCount.{count_of}
 use Rattle.kid_value.specs.SortLimits.{sort_depth, is_bounded, is_allowed}
 use Rattle.kid_value.proofs.SortLemmas.{and_parts, and_both}
-use Rattle.kid_codec.specs.NameSpelling.{spelled_names, name_spellings}
+use Rattle.kid_codec.specs.NameSpelling.{spelled_names}
 use Rattle.kid_codec.specs.SortSpelling.{number_tree, sort_spelling, has_spelled_names, is_spelled_sort, spelled_number, bound_from, spelled_bound, sort_of_one, sort_of_two, spelled_sort, sort_of_list, sort_of_parts}
 use Rattle.kid_codec.proofs.Numbers.{bytes_eq-true}
 use Rattle.kid_codec.proofs.NameLemmas.{names_told}

@@ -1,5 +1,5 @@
 -- What a tree spells is canonical.
-use Rattle.std.proofs.Common.{◌≡◌, inl, inr, ℕ, Bool, true, false, List, ◌∷◌, Some, refl, ap}
+use Rattle.std.proofs.Common.{◌≡◌, inl, inr, ℕ, true, List, Some, ap}
 use Rattle.std.specs.Prelude.{◌||◌}
 use Rattle.kid_sexp.specs.Plain as tree
 use Rattle.kid_sexp.specs.Plain.{Plain, Plains, atom, list}
@@ -9,11 +9,8 @@ use Rattle.kid_value.specs.ValueMap.{keys, lookup}
 use Rattle.kid_value.specs.ValueSet.{Ascends, value_eq, is_member}
 use Rattle.kid_value.proofs.ValueSetLaws.{value_eq-itself}
 use Rattle.kid_codec.specs.SpelledValue.{WordSpells, Spells, ListSpells, SpellTwo, SpellInOrder, SomeSpells, SpellsEntry, SomeSpellsEntry}
+use Rattle.kid_codec.proofs.Found.{or_true}
 use Rattle.kid_codec.proofs.JoinedMaps.{lookup-first, lookup-behind}
-
-or_true : (b c : Bool) → c ≡ true → (b || c) ≡ true
-or_true true c p = refl
-or_true false c p = p
 
 word_canonical : (w : List ℕ) (v : PlainValue) → WordSpells w v → IsCanonical v
 word_canonical w (int n) h = tt

@@ -1,5 +1,5 @@
 -- The value that a tree spells is the one that is read from it.
-use Rattle.std.proofs.Common.{◌≡◌, ◌⊎◌, inl, inr, ℕ, Bool, true, false, List, [], ◌∷◌, Option, Some, None, refl, sym, ap, ◌∙◌, subst}
+use Rattle.std.proofs.Common.{◌≡◌, inl, inr, ℕ, Bool, true, false, List, [], ◌∷◌, Option, Some, None, refl, sym, ap, ◌∙◌, subst}
 use Rattle.std.specs.Prelude.{◌||◌, option_map, codes}
 use Rattle.kid_sexp.specs.Plain as tree
 use Rattle.kid_sexp.specs.Plain.{Plain, Plains, atom, list}
@@ -14,8 +14,8 @@ use Rattle.kid_value.proofs.ValueSetLaws.{Ascends-union, same_members, value_eq-
 use Rattle.kid_codec.specs.Reading.{◌>>=◌}
 use Rattle.kid_codec.specs.SpelledValue.{WordSpells, Spells, ListSpells, SpellTwo, SpellInOrder, EachSpellsMember, SomeSpells, SpellsEntry, EachSpellsEntry, SomeSpellsEntry, KeysDiffer}
 use Rattle.kid_codec.specs.ValueSpelling.{atom_value, distinct_entries, value_of_parts, spelled_value, spelled_list, spelled_pair, spelled_values, spelled_entry, key_and_value, spelled_entries}
-use Rattle.kid_codec.proofs.Found.{same_some}
-use Rattle.kid_codec.proofs.JoinedMaps.{same_lookups, HasEntry, AreNew, put_away, joined}
+use Rattle.kid_codec.proofs.Found.{same_some, either_true, or_true}
+use Rattle.kid_codec.proofs.JoinedMaps.{same_lookups, HasEntry, not_known, AreNew, put_away, joined}
 use Rattle.kid_codec.proofs.NameLemmas.{tag_read}
 use Rattle.kid_codec.proofs.ValueBack.{value_back}
 
@@ -33,14 +33,6 @@ same_truth : (b c : Bool) → (b ≡ true → c ≡ true) → (c ≡ true → b 
 same_truth true c f g = sym (f refl)
 same_truth false true f g = g refl
 same_truth false false f g = refl
-
-either_true : (b c : Bool) → (b || c) ≡ true → (b ≡ true) ⊎ (c ≡ true)
-either_true true c p = inl refl
-either_true false c p = inr p
-
-or_true : (b c : Bool) → c ≡ true → (b || c) ≡ true
-or_true true c p = refl
-or_true false c p = p
 
 -- what trees were read as that each spell a member
 record MembersRead (ts : Plains) (xs : List PlainValue) : Type 0 where
@@ -103,10 +95,6 @@ one_entry t ts m e reads h p r = record {
         (λ k v q. put_away k e known (away k v (inr q)) (λ same. d.0 k e.1 v (subst (λ x. SpellsEntry t x e.1) (sym same) h) (r.told k v q))),
   );
 }
-
-not_known : (k v : PlainValue) (es : List (PlainValue × PlainValue)) → (None ≡ Some v) ⊎ HasEntry k v es → HasEntry k v es
-not_known k v es (inl p) = cc
-not_known k v es (inr q) = q
 
 map_read : (ts : Plains) (m : List (PlainValue × PlainValue)) → Ascends (keys m) → ((k v : PlainValue) → lookup k m ≡ Some v → SomeSpellsEntry ts k v) → KeysDiffer ts → EntriesRead ts m
     → option_map map_from (distinct_entries (spelled_entries ts)) ≡ Some (map_of (table m))

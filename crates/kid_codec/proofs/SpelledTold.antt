@@ -1,10 +1,10 @@
 -- What is read from a tree is a value that it spells.
-use Rattle.std.proofs.Common.{◌≡◌, ◌⊎◌, inl, inr, ℕ, ℤ, Bool, true, false, List, [], ◌∷◌, Option, Some, None, refl, sym, ap, ◌∙◌, subst}
+use Rattle.std.proofs.Common.{◌≡◌, inl, inr, ℕ, true, false, List, [], ◌∷◌, Option, Some, None, refl, sym, ap, ◌∙◌, subst}
 use Rattle.std.specs.Prelude.{◌||◌, option_map, if◌then◌else◌, codes}
 use Rattle.std.specs.Str.{bytes_eq}
 use Rattle.kid_sexp.specs.Plain as tree
 use Rattle.kid_sexp.specs.Plain.{Plain, Plains, atom, list}
-use Rattle.kid_value.specs.PlainValue.{PlainValue, int, bool, pair, set, seq, map_of, tag, items, entries, row, table}
+use Rattle.kid_value.specs.PlainValue.{PlainValue, int, bool, pair, tag, items, entries, row, table}
 use Rattle.kid_value.specs.Rows.Kinds.{set_of_all, sequence_from, map_from}
 use Rattle.kid_value.specs.SortOrder.{both}
 use Rattle.kid_value.specs.ValueMap.{keys, lookup, put_entry}
@@ -16,8 +16,8 @@ use Rattle.kid_codec.specs.NameSpelling.{is_tag, tag_name}
 use Rattle.kid_codec.specs.Number.{number_of}
 use Rattle.kid_codec.specs.SpelledValue.{WordSpells, Spells, ListSpells, SpellTwo, SpellInOrder, EachSpellsMember, SomeSpells, SpellsEntry, EachSpellsEntry, SomeSpellsEntry, KeysDiffer}
 use Rattle.kid_codec.specs.ValueSpelling.{atom_value, with_entries, distinct_entries, value_of_parts, spelled_value, spelled_list, spelled_pair, spelled_values, spelled_entry, key_and_value, spelled_entries}
-use Rattle.kid_codec.proofs.Found.{same_some, if_some, if_else, mapped, both_some, bind_some, number_from}
-use Rattle.kid_codec.proofs.JoinedMaps.{HasEntry, AreNew, put_at, new_key, are_new, joined}
+use Rattle.kid_codec.proofs.Found.{same_some, either_true, or_true, if_some, if_else, mapped, both_some, bind_some, number_from}
+use Rattle.kid_codec.proofs.JoinedMaps.{HasEntry, not_known, AreNew, put_at, new_key, are_new, joined}
 use Rattle.kid_codec.proofs.Numbers.{bytes_eq-true}
 use Rattle.kid_codec.proofs.NameLemmas.{tag_told}
 use Rattle.kid_codec.proofs.SpelledRead.{entry_is_read}
@@ -38,14 +38,6 @@ word_told w v p =
     ]
 
 -- ---- trees that spell values one by one
-
-either_true : (b c : Bool) → (b || c) ≡ true → (b ≡ true) ⊎ (c ≡ true)
-either_true true c p = inl refl
-either_true false c p = inr p
-
-or_true : (b c : Bool) → c ≡ true → (b || c) ≡ true
-or_true true c p = refl
-or_true false c p = p
 
 each_member : (ts : Plains) (vs xs : List PlainValue) → SpellInOrder ts (row vs) → ((x : PlainValue) → is_member x vs ≡ true → is_member x xs ≡ true) → EachSpellsMember ts xs
 each_member tree.none vs xs h within = tt
@@ -114,10 +106,6 @@ keys_differ (tree.more t ts) known (e ∷ es) h n = (
   λ k v w p q. two_values (lookup k (put_entry e.0 e.1 known)) v (new_key k w (put_entry e.0 e.1 known) es n.1 (entry_found ts es k w h.1 q)) (put_at k v e known (one_entry t e k v h.0 p)),
   keys_differ ts (put_entry e.0 e.1 known) es h.1 n.1,
 )
-
-not_known : (k v : PlainValue) (es : List (PlainValue × PlainValue)) → (None ≡ Some v) ⊎ HasEntry k v es → HasEntry k v es
-not_known k v es (inl p) = cc
-not_known k v es (inr q) = q
 
 map_told : (w : List ℕ) (ts : Plains) (es m : List (PlainValue × PlainValue)) → w ≡ codes "map" → EntriesInOrder ts es → with_entries [] es ≡ Some m → ListSpells (tree.more (atom w) ts) (map_from m)
 map_told w ts es m p h q =

@@ -22,7 +22,7 @@ use Rattle.kid_term.specs.declared.operator.Binder.{Binder}
 use Rattle.kid_term.specs.declared.operator.Binder.TheVariants as binder
 use Rattle.kid_term.specs.PlainTerm.{PlainHead, op, call, cast, PlainTerm, var, number, truth, tag, app, bind, PlainTerms, no_term, term, terms, term_row}
 use Rattle.kid_codec.specs.Name.{is_name, is_reserved, starts_with_letter, is_name_byte}
-use Rattle.kid_codec.specs.NameSpelling.{tag_word, is_tag, tag_name}
+use Rattle.kid_codec.specs.NameSpelling.{is_tag, tag_name}
 use Rattle.kid_codec.specs.Number.{number_of}
 use Rattle.kid_codec.specs.Reading.{judged, ◌>>=◌}
 use Rattle.kid_codec.specs.SortSpelling.{sort_spelling, is_spelled_sort}

@@ -1,5 +1,5 @@
 -- Trees, and what they spell.
-use Rattle.std.specs.Prelude.{ℕ, List, pos, codes}
+use Rattle.std.specs.Prelude.{pos, codes}
 use Rattle.kid_sexp.specs.Plain as tree
 use Rattle.kid_sexp.specs.Plain.{Plain, Plains, atom, list, one}
 use Rattle.kid_value.specs.PlainValue.{PlainValue, int, set, none, more}

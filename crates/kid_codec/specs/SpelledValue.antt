@@ -13,7 +13,8 @@ use Rattle.kid_value.specs.ValueView.{plain}
 use Rattle.kid_value.specs.declared.value.Value.{Value}
 use Rattle.kid_codec.specs.Name.{is_name}
 use Rattle.kid_codec.specs.NameSpelling.{tag_word}
-use Rattle.kid_codec.specs.ValueSpelling.{truth_word}
+use Rattle.kid_codec.specs.SortSpelling.{is_spelled_sort}
+use Rattle.kid_codec.specs.ValueSpelling.{truth_word, is_spelled_value}
 use Rattle.kid_codec.specs.declared.fault.CodecFault.{CodecFault}
 use Rattle.kid_codec.specs.declared.fault.CodecFault.TheVariants.{Form, Sort, Memory}
 
@@ -103,3 +104,7 @@ SpellsOnce = (t : Plain) (v w : PlainValue) → Spells t v → Spells t w → v 
 -- at any depth its sets ascend, and its maps by their keys
 abbrev pub SpellsCanonical : Type 0
 SpellsCanonical = (t : Plain) (v : PlainValue) → Spells t v → IsCanonical v
+
+-- a value of a sort that has a spelling has one too
+abbrev pub SortedAreSpelled : Type 0
+SortedAreSpelled = (s : PlainSort) (v : PlainValue) → is_spelled_sort s ≡ true → has_sort s v ≡ true → is_spelled_value v ≡ true

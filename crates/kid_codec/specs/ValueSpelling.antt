@@ -6,7 +6,7 @@ use Rattle.kid_sexp.specs.Plain.{Plain, Plains, atom, list, one}
 use Rattle.kid_value.specs.PlainSort.{PlainSort, has_sort}
 use Rattle.kid_value.specs.SortOrder.{both}
 use Rattle.kid_value.specs.SortLimits.{in_limits}
-use Rattle.kid_value.specs.PlainValue.{PlainValue, int, bool, pair, set, seq, map_of, tag, PlainValues, none, more, PlainEntries, no_entry, entry, row, table}
+use Rattle.kid_value.specs.PlainValue.{PlainValue, int, bool, pair, set, seq, map_of, tag, PlainValues, none, more, PlainEntries, no_entry, entry}
 use Rattle.kid_value.specs.ValueMap.{put_entry, keys}
 use Rattle.kid_value.specs.ValueSet.{is_member}
 use Rattle.kid_value.specs.Rows.Kinds.{set_of_all, sequence_from, map_from}

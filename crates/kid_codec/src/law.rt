@@ -1,6 +1,6 @@
 //! Laws of what trees spell, each the contract of a function that does nothing.
 ghost use Rattle.kid_codec.specs.SpelledExamples.{SpelledExamples};
-ghost use Rattle.kid_codec.specs.SpelledValue.{SpellsOnce, SpellsCanonical};
+ghost use Rattle.kid_codec.specs.SpelledValue.{SortedAreSpelled, SpellsOnce, SpellsCanonical};
 
 /// A tree spells one value at most.
 pub fn values_are_spelled_once()
@@ -10,6 +10,11 @@ pub fn values_are_spelled_once()
 /// In a value that a tree spells the sets ascend, at any depth, and the maps by their keys.
 pub fn spelled_values_are_canonical()
     ensures { SpellsCanonical }
+{}
+
+/// Each value of a sort that has a spelling has one, so that it can be printed.
+pub fn sorted_values_are_spelled()
+    ensures { SortedAreSpelled }
 {}
 
 /// `(set 2 1 2)` spells the set of 1 and 2, and `(map (1 2) (1 2))` spells no value.

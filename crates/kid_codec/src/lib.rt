@@ -16,7 +16,10 @@ mod value;
 mod word;
 
 pub use fault::CodecFault;
-pub use law::{spelled_values_are_canonical, spelled_values_by_example, values_are_spelled_once};
+pub use law::{
+    sorted_values_are_spelled, spelled_values_are_canonical, spelled_values_by_example,
+    values_are_spelled_once,
+};
 pub use name::is_name;
 pub use number::number_of;
 pub use print::{sort_tree, term_tree, value_tree};
