@@ -70,7 +70,7 @@ const IN_THE_SECOND: [&str; 4] = [
     "(program 2) (input n (int 0 8))",
     "(program 2) (def f () (enum blue red) 'red) (input n (int 0 8))",
     "(program 2) (input n (int 0 8)) (input enum (enum enum))",
-    "(program 2) (input n (int 0 8)) (input m (map (enum a b) (set (enum c))))",
+    "(program 2) (input n (int 0 8)) (input k (map (enum a b) (set (enum c))))",
 ];
 
 #[test]
