@@ -58,7 +58,11 @@ const STATEMENTS: [(&str, u32, LoadCode); 7] = [
     ("(main (call 'a)) (search ((m bool)))", 6, LoadCode::Form),
     ("(main) (search ((m bool)) (emit 'a))", 7, LoadCode::Form),
     // parameters that are refused say nothing of a call
-    ("(main (call 1 2)) (search ((m (enum a))))", 7, LoadCode::Form),
+    (
+        "(main (call 1 2)) (search ((m (enum a))))",
+        7,
+        LoadCode::Form,
+    ),
 ];
 
 #[test]
