@@ -23,3 +23,4 @@ pub mod Obeying
 pub mod StageLemmas
 pub mod Depths
 pub mod Settings
+pub mod TagLemmas
