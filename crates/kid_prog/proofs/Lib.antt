@@ -1,4 +1,5 @@
 pub mod ProgramParts
+pub mod Standing
 pub mod Words
 pub mod Printable
 pub mod Trees
