@@ -32,19 +32,22 @@ const SOLVE_FOURTEEN: [&str; 6] = ["solve", "theory", "script", "inputs", "--fue
 
 #[test]
 fn solves_for_the_first(rt: HostRuntime) {
-    let text = "3\n(answers 1 splits 7)\n2\n(answers 1 splits 6)\n(answers 0 splits 19)\n(outside)\n";
+    let text =
+        "3\n(answers 1 splits 7)\n2\n(answers 1 splits 6)\n(answers 0 splits 19)\n(outside)\n";
     ends(&rt, rt.alloc(), &SOLVE, &ONE_FILES, 0, text, "");
 }
 
 #[test]
 fn solves_for_the_first_two(rt: HostRuntime) {
-    let text = "3\n7\n(answers 2 splits 15)\n2\n6\n(answers 2 splits 14)\n(answers 0 splits 19)\n(outside)\n";
+    let text =
+        "3\n7\n(answers 2 splits 15)\n2\n6\n(answers 2 splits 14)\n(answers 0 splits 19)\n(outside)\n";
     ends(&rt, rt.alloc(), &SOLVE, &TWO_FILES, 0, text, "");
 }
 
 #[test]
 fn solves_for_more_than_there_are(rt: HostRuntime) {
-    let text = "3\n7\n(answers 2 splits 19)\n2\n6\n10\n(answers 3 splits 19)\n(answers 0 splits 19)\n(outside)\n";
+    let text =
+        "3\n7\n(answers 2 splits 19)\n2\n6\n10\n(answers 3 splits 19)\n(answers 0 splits 19)\n(outside)\n";
     ends(&rt, rt.alloc(), &SOLVE, &THREE_FILES, 0, text, "");
 }
 
