@@ -95,12 +95,7 @@ fn definition_parts(alloc: Global, tree: &Tree) -> Result<Def, CodecFault>
 
 /// `(def NAME ((NAME SORT) ..) SORT TERM)` after other definitions: a new name, parameters that differ from one another, calls that
 /// do not go deeper than 16, allowed sorts, and a body within the sort over the parameters alone and the definitions before.
-pub fn def_form(
-    alloc: Global,
-    format: Format,
-    known: &Known,
-    tree: &Tree,
-) -> Result<Def, LoadCode>
+pub fn def_form(alloc: Global, format: Format, known: &Known, tree: &Tree) -> Result<Def, LoadCode>
     ensures { Judges plain_def result (def_form format known.now (plain tree.now)) }
 {
     let definition = definition_parts(alloc, tree)?;

@@ -133,9 +133,22 @@ fn main_before(
 {
     let format = heading.format;
     let signature = &heading.signature;
-    let parameters =
-        known_parameters(alloc, format, signature, &heading.output, &heading.sort, rest)?;
-    main_form(alloc, format, signature, &heading.sort, parameters.as_ref(), tree)
+    let parameters = known_parameters(
+        alloc,
+        format,
+        signature,
+        &heading.output,
+        &heading.sort,
+        rest,
+    )?;
+    main_form(
+        alloc,
+        format,
+        signature,
+        &heading.sort,
+        parameters.as_ref(),
+        tree,
+    )
 }
 
 fn after_first(

@@ -58,7 +58,11 @@ const STATEMENTS: [(&str, u32, LoadCode); 7] = [
     ("(main (call 'a)) (search ((m bool)))", 6, LoadCode::Form),
     ("(main) (search ((m bool)) (emit 'a))", 7, LoadCode::Form),
     // parameters that are refused say nothing of a call
-    ("(main (call 1 2)) (search ((m (enum a))))", 7, LoadCode::Form),
+    (
+        "(main (call 1 2)) (search ((m (enum a))))",
+        7,
+        LoadCode::Form,
+    ),
 ];
 
 #[test]
@@ -70,7 +74,7 @@ const IN_THE_SECOND: [&str; 4] = [
     "(program 2) (input n (int 0 8))",
     "(program 2) (def f () (enum blue red) 'red) (input n (int 0 8))",
     "(program 2) (input n (int 0 8)) (input enum (enum enum))",
-    "(program 2) (input n (int 0 8)) (input m (map (enum a b) (set (enum c))))",
+    "(program 2) (input n (int 0 8)) (input k (map (enum a b) (set (enum c))))",
 ];
 
 #[test]
