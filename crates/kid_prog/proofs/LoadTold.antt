@@ -176,6 +176,7 @@ last_told k h s t condition ts p proper required e =
         inputs_allowed = names-allowed s.inputs (spelled-allowed s.inputs proper.inputs);
         parameters_allowed = names-allowed l.search.0 (spelled-allowed l.search.0 n.parameters);
         sort_allowed = output_allowed f.output o.spelled;
+        spelled = (and_parts (is_name f.output.0) (is_spelled_sort f.output.1) o.spelled).1;
         wanted = g.wanted;
         condition = r.sorted;
         main = ap (λ (ps : Option Names). obey (setting s.definitions f.output.1 ps) s.inputs l.main) (sym n.known) ∙ m.obeys;
