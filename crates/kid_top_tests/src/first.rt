@@ -6,15 +6,15 @@ use crate::worked::derives_texts;
 
 /// The integers from 1 to 10 that leave n by 4, the first alone.
 const ONE: &str =
-    "(theory rest) (input n (int 0 9)) (require (lt n 6)) (output z (int 1 10)) (ensure (eq (mod z 4) n)) (first 1)";
+    "(theory remainder) (input n (int 0 9)) (require (lt n 6)) (output z (int 1 10)) (ensure (eq (mod z 4) n)) (first 1)";
 
 /// The first two.
 const TWO: &str =
-    "(theory rest) (input n (int 0 9)) (require (lt n 6)) (output z (int 1 10)) (ensure (eq (mod z 4) n)) (first 2)";
+    "(theory remainder) (input n (int 0 9)) (require (lt n 6)) (output z (int 1 10)) (ensure (eq (mod z 4) n)) (first 2)";
 
 /// The first three.
 const THREE: &str =
-    "(theory rest) (input n (int 0 9)) (require (lt n 6)) (output z (int 1 10)) (ensure (eq (mod z 4) n)) (first 3)";
+    "(theory remainder) (input n (int 0 9)) (require (lt n 6)) (output z (int 1 10)) (ensure (eq (mod z 4) n)) (first 3)";
 
 const INPUTS: &str = "(3) (2) (5) (7)";
 
