@@ -25,3 +25,4 @@ pub mod Depths
 pub mod Settings
 pub mod EventLists
 pub mod RunDepths
+pub mod TagLemmas

@@ -64,9 +64,10 @@ fn statement_has_tags(statement: &Stmt) -> bool
     ensures { result ≡ spec.stmt_has_tags (plain_stmt statement.now) }
 {
     match statement {
-        Stmt::Let(_, term) | Stmt::Emit(term) => term_has_tags(term),
-        Stmt::If(term, body) | Stmt::For(_, term, body) => term_has_tags(term)
-            || statements_have_tags(body.items()),
+        Stmt::Let(_, term) => term_has_tags(term),
+        Stmt::If(condition, body) => term_has_tags(condition) || statements_have_tags(body.items()),
+        Stmt::For(_, set, body) => term_has_tags(set) || statements_have_tags(body.items()),
+        Stmt::Emit(value) => term_has_tags(value),
         Stmt::Call(arguments) => terms_have_tags(arguments.items()),
     }
 }
