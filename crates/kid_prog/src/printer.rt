@@ -74,14 +74,21 @@ fn search_tree(alloc: Global, program: &Program) -> Result<Tree, Memory>
     Ok(Tree::List(with_statements(alloc, trees, program.search.items())?))
 }
 
+/// The form that names the format in which the program is printed.
+fn version_tree(alloc: Global, program: &Program) -> Result<Tree, Memory>
+    ensures { IfOk result (λ t. plain_tree t ≡ format_spelling (format_for (program_has_tags (plain_program program.now)))) }
+{
+    let has_tags = program_has_tags(program);
+    format_tree(alloc, Format::with(has_tags))
+}
+
 /// The forms before the condition.
 fn first_forms(alloc: Global, program: &Program) -> Result<Forest, Memory>
     requires { is_spelled_program (plain_program program.now) ≡ true }
     ensures { IfOk result (λ f. f ≡ more (format_spelling (format_for (program_has_tags (plain_program program.now)))) (definitions_before (plain_program program.now).definitions (inputs_before (plain_program program.now).inputs none))) }
 {
     let mut forms = Forest::new(alloc);
-    let format = Format::with(program_has_tags(program));
-    forms.push(format_tree(alloc, format)?)?;
+    forms.push(version_tree(alloc, program)?)?;
     let forms = with_definitions(alloc, forms, program.signature.definitions())?;
     with_inputs(alloc, forms, program.signature.inputs())
 }

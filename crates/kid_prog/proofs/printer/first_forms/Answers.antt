@@ -18,7 +18,7 @@ returns c =
     let s = c.args.program.now.signature in
     IfOk-weaker c.with_inputs.result (λ (f : Plains). f ≡ join c.in_ok-forms.forms (inputs_before (map plain_name c.inputs.result.now) none))
     (λ (f : Plains). f ≡ more version (definitions_before s.definitions (inputs_before s.inputs none)))
-    (λ f is. first-joined c.new-forms.result c.push.new.self c.in_ok-forms.forms f (plain_tree c.in_ok-format_tree.field-0) version
+    (λ f is. first-joined c.new-forms.result c.push.new.self c.in_ok-forms.forms f (plain_tree c.in_ok-version_tree.field-0) version
     (map plain_def c.definitions.result.now) s.definitions (map plain_name c.inputs.result.now) s.inputs
-    c.new-forms.ensures c.in_ok-push.ensures.ok c.in_ok-format_tree.ensures c.in_ok-forms.ensures c.definitions.ensures is c.inputs.ensures)
+    c.new-forms.ensures c.in_ok-push.ensures.ok c.in_ok-version_tree.ensures c.in_ok-forms.ensures c.definitions.ensures is c.inputs.ensures)
     c.with_inputs.ensures
