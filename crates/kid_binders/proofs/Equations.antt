@@ -14,7 +14,7 @@ use Rattle.kid_value.specs.PlainValue as plain
 use Rattle.kid_value.proofs.MemberLemmas.{list_all-member}
 use Rattle.kid_value.proofs.RowLemmas.{items_row}
 use Rattle.kid_value.proofs.ValueSetLaws.{is_member-filter}
-use Rattle.kid_term.specs.PlainTerm.{op, PlainTerm, var, bind}
+use Rattle.kid_term.specs.PlainTerm.{op, PlainTerm, var, truth, bind}
 use Rattle.kid_term.specs.Names.{same_name}
 use Rattle.kid_term.specs.Eval.{Env, Calls, value_at, eval}
 use Rattle.kid_term.specs.Substitution.{mentions, replaced, captures}
@@ -148,7 +148,7 @@ module _ (calls : Calls) (env : Env) where
       ∙ ap bool (sym (list_all-swap (λ v w. truth_of (eval calls ((x, v) ∷ (y, w) ∷ env) p)) (members_of (eval calls env s)) (members_of (eval calls env t))))
       ∙ sym (λ i. bool (list_all (λ v. list_all (λ w. truth_of (turned calls env x y v w p n i)) (members_of (weaker calls env x v t h i))) (members_of (eval calls env s))))
 
-  pub b11_value : (x : List ℕ) (s : PlainTerm) → bool true ≡ eval calls env (all x s (Rattle.kid_term.specs.PlainTerm.truth true))
+  pub b11_value : (x : List ℕ) (s : PlainTerm) → bool true ≡ eval calls env (all x s (truth true))
   b11_value x s = ap bool (sym (list_all-true (members_of (eval calls env s))))
 
   pub b12_value : (x : List ℕ) (t s p : PlainTerm) → truth_of (eval calls env (subset t s)) ≡ true → eval calls env (conjunction (all x t p) (all x s p)) ≡ eval calls env (all x s p)

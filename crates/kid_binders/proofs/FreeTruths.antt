@@ -1,6 +1,6 @@
 -- The rules that are true of terms without sorts too: b1 to b3, b8, b11 to b13, b15, b17 and b18.
 use Rattle.std.proofs.Common.{◌≡◌, ℕ, Bool, true, false, List, [], ◌∷◌, Some, Ok, Err, Result, refl, sym, ap, ◌∙◌, subst}
-use Rattle.std.specs.Prelude.{pos, ◌&&◌}
+use Rattle.std.specs.Prelude.{pos, ◌&&◌, cond}
 use Rattle.kid_value.specs.PlainValue.{int, bool}
 use Rattle.kid_value.specs.Rows.Parts.{truth_of}
 use Rattle.kid_value.proofs.SortLemmas.{and_parts}
@@ -129,7 +129,7 @@ module _ (calls : Calls) (env : Env) where
 
   pub b17_back_true : (t : PlainTerm) (b : PlainBound) → b17_back t ≡ Ok b → Keeps t b
   b17_back_true (bind AnyOf x s q) b e =
-      let k = of_two_ok (as_equation q) (λ y u. Rattle.std.specs.Prelude.cond (mentions x y) capture (made (member y (image x s u)))) b e in
+      let k = of_two_ok (as_equation q) (λ y u. cond (mentions x y) capture (made (member y (image x s u)))) b e in
       let m = unless_ok (mentions x k.0) (made (member k.0 (image x s k.1))) b k.3 in
       kept (member k.0 (image x s k.1)) (bind AnyOf x s q) b m.1 (sym (b17_value calls env x k.0 s k.1 m.0) ∙ ap (λ z. eval calls env (some x s z)) (sym (as_equation_is q k.0 k.1 k.2)))
   b17_back_true t b e = cc

@@ -1,6 +1,6 @@
 -- What the sort of a term tells of its parts and of their values.
 use Rattle.std.proofs.Common.{◌≡◌, ℕ, Bool, true, false, cond, List, [], ◌∷◌, Result, Ok, Err, refl, sym, ap, ◌∙◌, subst}
-use Rattle.std.specs.Prelude.{not, ◌&&◌, ◌||◌}
+use Rattle.std.specs.Prelude.{ℤ, not, ◌&&◌, ◌||◌}
 use Rattle.kid_value.specs.PlainValue.{PlainValue, int, bool, set}
 use Rattle.kid_value.specs.PlainSort.{PlainSort, never, bools, ints, sets, has_sort}
 use Rattle.kid_value.specs.ValueSet.{value_eq, is_member}
@@ -38,7 +38,7 @@ pub set_kind : (a : PlainSort) (v : PlainValue) → IsOfSort (sets a) v → is_s
 set_kind a (set vs) h = refl
 set_kind a v h = let e = h.has in cc
 
-int_kind : (lo hi : Rattle.std.specs.Prelude.ℤ) (v : PlainValue) → IsOfSort (ints lo hi) v → is_int v ≡ true
+int_kind : (lo hi : ℤ) (v : PlainValue) → IsOfSort (ints lo hi) v → is_int v ≡ true
 int_kind lo hi (int n) h = refl
 int_kind lo hi v h = let e = h.has in cc
 

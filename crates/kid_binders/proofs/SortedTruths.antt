@@ -23,7 +23,7 @@ use Rattle.kid_term.specs.declared.operator.Op.TheVariants as operator
 use Rattle.kid_term.specs.declared.operator.LogicOp.TheVariants as logic
 use Rattle.kid_term.specs.declared.operator.SetOp.TheVariants as set_op
 use Rattle.kid_term.specs.declared.operator.Binder.TheVariants.{All, Some as AnyOf, SetOf, Image, SumOf}
-use Rattle.kid_term.proofs.EvalLemmas.{same_name-true, or_none}
+use Rattle.kid_term.proofs.EvalLemmas.{same_name-true, same_name-comm, or_none}
 use Rattle.kid_term.proofs.Inversions.{ok, with_bool_ok, with_set_ok}
 use Rattle.kid_term.proofs.SortedValue.{CallsFit, BinderSorts, binder_ok}
 use Rattle.kid_binders.specs.Shapes.{one, two, negated, conjunction, disjunction, implication, sum_of, member, union, all, some, sumof, as_single, as_not, as_and, as_or, as_union, as_with}
@@ -180,7 +180,7 @@ module _ (known : List PlainDef) (calls : Calls) (checks : Checks) (fit : CallsF
       let k = unless_ok (mentions x t) (made (all y t (all x s p))) b e in
       let a = apart x y s t p h in
       kept calls env (all y t (all x s p)) (all x s (all y t p)) b k.1
-      (b10_value calls env x y s t p k.0 (not_in_scope known y s names a.3.0 a.3.1 a.2) (Rattle.kid_term.proofs.EvalLemmas.same_name-comm x y ∙ a.0))
+      (b10_value calls env x y s t p k.0 (not_in_scope known y s names a.3.0 a.3.1 a.2) (same_name-comm x y ∙ a.0))
   swapped_true x s q b e h = cc
 
   pub b10_true : (t : PlainTerm) (b : PlainBound) → b10 t ≡ Ok b → IsSorted t → Keeps calls env t b
@@ -192,7 +192,7 @@ module _ (known : List PlainDef) (calls : Calls) (checks : Checks) (fit : CallsF
       let k = unless_ok (mentions x t) (made (all x s (all y t p))) b e in
       let a = apart x y s t p (subst IsSorted (sym (made_ok (all x s (all y t p)) b k.1)) h') in
       kept calls env (all x s (all y t p)) (all y t (all x s p)) b k.1
-      (sym (b10_value calls env x y s t p k.0 (not_in_scope known y s names a.3.0 a.3.1 a.2) (Rattle.kid_term.proofs.EvalLemmas.same_name-comm x y ∙ a.0)))
+      (sym (b10_value calls env x y s t p k.0 (not_in_scope known y s names a.3.0 a.3.1 a.2) (same_name-comm x y ∙ a.0)))
   swapped_back_true y t q b e h h' = cc
 
   pub b10_back_true : (t : PlainTerm) (b : PlainBound) → b10_back t ≡ Ok b → IsSorted t → IsSorted b.term → Keeps calls env t b

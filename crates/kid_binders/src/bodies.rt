@@ -6,7 +6,7 @@ ghost use Rattle.kid_binders.specs.Outcome.{Gives, made, plain_bound};
 ghost use Rattle.kid_binders.specs.Bodies as spec;
 
 use crate::bound::{Bound, RuleFault};
-use crate::build::{bind_of, bound, made, one, two, two_of};
+use crate::build::{bind_body, bind_of, made, one, two, two_of};
 use crate::shape::{as_and, as_not, same_term};
 use kid_term::substitute::is_same;
 use kid_term::{Binder, LogicOp, Op, Term};
@@ -44,7 +44,7 @@ fn of_both(alloc: Global, x: &Text, s: &Term, p: &Term, q: &Term) -> Result<Boun
     ensures { IfOk result (λ b. made (shape.all x.now (plain_term s.now) (shape.conjunction (plain_term p.now) (plain_term q.now))) ≡ Ok (plain_bound b)) }
 {
     let body = two_of(alloc, Op::Logic(LogicOp::And), p, q)?;
-    let whole = bound(alloc, Binder::All, x, s, body)?;
+    let whole = bind_body(alloc, Binder::All, x, s, body)?;
     Ok(made(alloc, whole))
 }
 
@@ -87,7 +87,7 @@ fn denied(alloc: Global, x: &Text, s: &Term, p: &Term) -> Result<Bound, Memory>
 {
     let body = p.copy(alloc)?;
     let body = one(alloc, Op::Logic(LogicOp::Not), body)?;
-    let none = bound(alloc, Binder::All, x, s, body)?;
+    let none = bind_body(alloc, Binder::All, x, s, body)?;
     let whole = one(alloc, Op::Logic(LogicOp::Not), none)?;
     Ok(made(alloc, whole))
 }
@@ -140,7 +140,7 @@ fn nested(alloc: Global, x: &Text, s: &Term, y: &Text, t: &Term, p: &Term) -> Re
     ensures { IfOk result (λ b. made (shape.all x.now (plain_term s.now) (shape.all y.now (plain_term t.now) (plain_term p.now))) ≡ Ok (plain_bound b)) }
 {
     let body = bind_of(alloc, Binder::All, y, t, p)?;
-    let whole = bound(alloc, Binder::All, x, s, body)?;
+    let whole = bind_body(alloc, Binder::All, x, s, body)?;
     Ok(made(alloc, whole))
 }
 

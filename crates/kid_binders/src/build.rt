@@ -37,7 +37,7 @@ pub(crate) fn two_of(alloc: Global, op: Op, a: &Term, b: &Term) -> Result<Term, 
 }
 
 /// A binder over a body.
-pub(crate) fn bound(
+pub(crate) fn bind_body(
     alloc: Global,
     binder: Binder,
     x: &Text,
@@ -64,7 +64,7 @@ pub(crate) fn bind_of(
     ensures { IfOk result (λ t. plain_term t ≡ bind binder x.now (plain_term set.now) (plain_term body.now)) }
 {
     let body = body.copy(alloc)?;
-    bound(alloc, binder, x, set, body)
+    bind_body(alloc, binder, x, set, body)
 }
 
 /// A term without conditions.

@@ -6,7 +6,7 @@ ghost use Rattle.kid_binders.specs.Shapes as shape;
 ghost use Rattle.kid_binders.specs.Outcome.{Gives, made, plain_bound, with_put};
 ghost use Rattle.kid_binders.specs.Gathered as spec;
 
-use crate::build::{bind_of, bound, made, two, two_of};
+use crate::build::{bind_body, bind_of, made, two, two_of};
 use crate::bound::{Bound, RuleFault};
 use crate::shape::{as_equation, as_member};
 use kid_term::substitute::is_same;
@@ -60,7 +60,7 @@ fn all_implied(alloc: Global, x: &Text, s: &Term, r: Term, p: &Term) -> Result<B
 {
     let right = p.copy(alloc)?;
     let body = two(alloc, Op::Logic(LogicOp::Implies), r, right)?;
-    let whole = bound(alloc, Binder::All, x, s, body)?;
+    let whole = bind_body(alloc, Binder::All, x, s, body)?;
     Ok(made(alloc, whole))
 }
 
@@ -88,6 +88,7 @@ fn b14_to(
     }
 }
 
+#[tactic(auto, using(crate::proofs::ShapeLemmas::implied_instance))]
 fn b14_of(
     alloc: Global,
     x: &Text,
@@ -131,7 +132,7 @@ fn some_equal(alloc: Global, x: &Text, s: &Term, y: &Term, e: &Term) -> Result<B
     ensures { IfOk result (λ b. made (shape.some x.now (plain_term s.now) (shape.equation (plain_term y.now) (plain_term e.now))) ≡ Ok (plain_bound b)) }
 {
     let body = two_of(alloc, Op::Logic(LogicOp::Eq), y, e)?;
-    let whole = bound(alloc, Binder::Some, x, s, body)?;
+    let whole = bind_body(alloc, Binder::Some, x, s, body)?;
     Ok(made(alloc, whole))
 }
 

@@ -4,9 +4,6 @@ use kid_term::Terms;
 use std::alloc::Global;
 use std::process::Abort;
 
-/// A rule at a term with arguments, the one condition that it gives or none, and the new term.
-type Row<'a> = (u8, &'a str, &'a str, &'a str, &'a str);
-
 fn are_told(alloc: Global, conditions: &Terms, want: &str) -> bool {
     match conditions.items() {
         [] => want.is_empty(),
@@ -23,7 +20,7 @@ fn is_made(alloc: Global, made: Option<Applied>, condition: &str, want: &str) ->
     }
 }
 
-fn makes(rt: &impl Abort, alloc: Global, back: bool, rows: &[Row<'_>]) {
+fn makes(rt: &impl Abort, alloc: Global, back: bool, rows: &[(u8, &str, &str, &str, &str)]) {
     for row in rows {
         let (rule, it, args, condition, want) = *row;
         let made = ruled(alloc, rule, back, it, args);
@@ -31,7 +28,8 @@ fn makes(rt: &impl Abort, alloc: Global, back: bool, rows: &[Row<'_>]) {
     }
 }
 
-const FORTH: [Row<'static>; 18] = [
+// a rule at a term with arguments, the condition that it gives, if any, and the new term
+const FORTH: [(u8, &str, &str, &str, &str); 18] = [
     (1, "Ays<xy", "z", "", "Azs<xz"),
     (2, "AxE<xy", "", "", "T"),
     (3, "SxE<xy", "", "", "F"),
@@ -57,7 +55,7 @@ fn goes_forth(rt: HostRuntime) {
     makes(&rt, rt.alloc(), false, &FORTH);
 }
 
-const BACK: [Row<'static>; 9] = [
+const BACK: [(u8, &str, &str, &str, &str); 9] = [
     (6, "&Axs<xyAxt<xy", "", "", "Ax|st<xy"),
     (7, "/Sxs<xySxt<xy", "", "", "Sx|st<xy"),
     (8, "&Axs<xyAxs<yx", "", "", "Axs&<xy<yx"),
@@ -75,7 +73,7 @@ fn goes_back(rt: HostRuntime) {
     makes(&rt, rt.alloc(), true, &BACK);
 }
 
-const CORNERS: [Row<'static>; 13] = [
+const CORNERS: [(u8, &str, &str, &str, &str); 13] = [
     // an inner binder of the name keeps its places, but for those in its set
     (4, "Ax{zAxs<xy", "", "", "Axs<xy"),
     (5, "Sx{zSxx<xy", "", "", "Sxz<xy"),

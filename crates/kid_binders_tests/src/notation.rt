@@ -49,7 +49,7 @@ fn taken(alloc: Global, pile: &mut Vec<Term>, count: usize) -> Option<Terms> {
     Some(terms)
 }
 
-fn applied(op: Op, args: Option<Terms>) -> Option<Term> {
+fn operated(op: Op, args: Option<Terms>) -> Option<Term> {
     Some(Term::App(Head::Op(op), args?))
 }
 
@@ -57,7 +57,7 @@ fn boxed(alloc: Global, term: Option<Term>) -> Option<BoxedTerm> {
     BoxedTerm::new(alloc, term?).ok()
 }
 
-fn bound(
+fn binder_of(
     binder: Binder,
     name: Option<Text>,
     set: Option<BoxedTerm>,
@@ -70,7 +70,7 @@ fn bound(
 }
 
 fn operation(alloc: Global, pile: &mut Vec<Term>, op: Op, count: usize) -> Option<Term> {
-    applied(op, taken(alloc, pile, count))
+    operated(op, taken(alloc, pile, count))
 }
 
 fn logic(alloc: Global, pile: &mut Vec<Term>, op: LogicOp) -> Option<Term> {
@@ -84,7 +84,7 @@ fn of_sets(alloc: Global, pile: &mut Vec<Term>, op: SetOp, count: usize) -> Opti
 fn binding(alloc: Global, pile: &mut Vec<Term>, binder: Binder) -> Option<Term> {
     let name = name_of(pile.pop());
     let set = boxed(alloc, pile.pop());
-    bound(binder, name, set, boxed(alloc, pile.pop()))
+    binder_of(binder, name, set, boxed(alloc, pile.pop()))
 }
 
 // an operator on truth values or on numbers, or a number

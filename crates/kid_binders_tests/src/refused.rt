@@ -4,9 +4,6 @@ use kid_binders::RuleFault;
 use std::alloc::Global;
 use std::process::Abort;
 
-/// A rule at a term with arguments.
-type Row<'a> = (u8, &'a str, &'a str);
-
 fn is_refused(made: Option<Applied>, want: RuleFault) -> bool {
     match made {
         Some(Err(fault)) => fault == want,
@@ -14,7 +11,13 @@ fn is_refused(made: Option<Applied>, want: RuleFault) -> bool {
     }
 }
 
-fn refuses(rt: &impl Abort, alloc: Global, back: bool, rows: &[Row<'_>], want: RuleFault) {
+fn refuses(
+    rt: &impl Abort,
+    alloc: Global,
+    back: bool,
+    rows: &[(u8, &str, &str)],
+    want: RuleFault,
+) {
     for row in rows {
         let (rule, it, args) = *row;
         let made = ruled(alloc, rule, back, it, args);
@@ -22,7 +25,8 @@ fn refuses(rt: &impl Abort, alloc: Global, back: bool, rows: &[Row<'_>], want: R
     }
 }
 
-const NO_MATCH: [Row<'static>; 24] = [
+// a rule at a term with arguments
+const NO_MATCH: [(u8, &str, &str); 24] = [
     (1, "<xy", "z"),
     (1, "Ays<xy", "3"),
     (2, "Axs<xy", ""),
@@ -54,7 +58,7 @@ fn knows_no_instance(rt: HostRuntime) {
     refuses(&rt, rt.alloc(), false, &NO_MATCH, RuleFault::NoMatch);
 }
 
-const NO_MATCH_BACK: [Row<'static>; 17] = [
+const NO_MATCH_BACK: [(u8, &str, &str); 17] = [
     // another name, another body, another connective
     (6, "&Axs<xyAyt<xy", ""),
     (6, "&Axs<xyAxt<yx", ""),
@@ -80,7 +84,7 @@ fn knows_no_instance_back(rt: HostRuntime) {
     refuses(&rt, rt.alloc(), true, &NO_MATCH_BACK, RuleFault::NoMatch);
 }
 
-const COUNTS: [Row<'static>; 9] = [
+const COUNTS: [(u8, &str, &str); 9] = [
     (1, "Ays<xy", ""),
     (1, "Ays<xy", "zz"),
     (2, "AxE<xy", "z"),
@@ -99,7 +103,7 @@ fn counts_arguments(rt: HostRuntime) {
 }
 
 // rules without a direction back, at what they would make; and one that has it, with an argument
-const ONE_WAY: [Row<'static>; 13] = [
+const ONE_WAY: [(u8, &str, &str); 13] = [
     (1, "Azs<xz", "y"),
     (2, "T", ""),
     (3, "F", ""),
@@ -120,7 +124,7 @@ fn goes_one_way(rt: HostRuntime) {
     refuses(&rt, rt.alloc(), true, &ONE_WAY, RuleFault::NoMatch);
 }
 
-const CAPTURED: [Row<'static>; 11] = [
+const CAPTURED: [(u8, &str, &str); 11] = [
     // the new name stands in the body, free or bound
     (1, "Ays<xy", "x"),
     (1, "AysAzt<zy", "z"),
@@ -142,7 +146,7 @@ fn captures_no_name(rt: HostRuntime) {
     refuses(&rt, rt.alloc(), false, &CAPTURED, RuleFault::Capture);
 }
 
-const CAPTURED_BACK: [Row<'static>; 2] = [(10, "AyxAxs<xy", ""), (17, "Sxs=x+xy", "")];
+const CAPTURED_BACK: [(u8, &str, &str); 2] = [(10, "AyxAxs<xy", ""), (17, "Sxs=x+xy", "")];
 
 #[test]
 fn captures_no_name_back(rt: HostRuntime) {
