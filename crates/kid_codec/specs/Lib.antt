@@ -3,6 +3,7 @@ pub mod Name
 pub mod NameSpelling
 pub mod NamedValues
 pub mod Number
+pub mod ReadSpellings
 pub mod Reading
 pub mod Reserved
 pub mod Shape

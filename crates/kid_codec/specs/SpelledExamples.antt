@@ -16,7 +16,7 @@ two_under_one = list (tree.more (atom (codes "1")) (one (atom (codes "2"))))
 abbrev pub map_with_a_repeat : Plain
 map_with_a_repeat = headed (codes "map") (tree.more two_under_one (one two_under_one))
 
--- the set of 1 and 2 is spelled in any order and with repeats, and no map by two entries of one key
+-- the one spells the set of 1 and 2, and the other, in which a key stands twice, spells no value
 pub record SpelledExamples : Type 0 where
   pub repeated_member : Spells set_with_a_repeat (set (more (int (pos 1)) (more (int (pos 2)) none)))
   pub repeated_key : (v : PlainValue) → Spells map_with_a_repeat v → ⊥

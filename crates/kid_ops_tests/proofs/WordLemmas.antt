@@ -3,7 +3,7 @@ use Rattle.std.proofs.Common.{◌≡◌, ℕ, ◌<◌, ◌≤◌, ◌^◌, Bool,
 use Rattle.std.specs.Prelude.{int_le}
 use Rattle.std.proofs.lemmas.Bool.Decides.{nat_tests}
 use Rattle.std.proofs.lemmas.Int.{ints as int_rules}
-use Rattle.kid_value.specs.PlainValue.{PlainValue, int, bool, pair, set, seq, map_of, items}
+use Rattle.kid_value.specs.PlainValue.{PlainValue, int, bool, pair, set, seq, map_of, tag, items}
 use Rattle.kid_value.specs.SortLimits.{in_limits}
 use Rattle.kid_value.specs.ValueSet.{is_member}
 use Rattle.kid_value.specs.Rows.Kinds.{natural}
@@ -35,3 +35,4 @@ small_code lo k (bool b) h = refl
 small_code lo k (pair v w) h = refl
 small_code lo k (seq vs) h = refl
 small_code lo k (map_of es) h = refl
+small_code lo k (tag n) h = refl

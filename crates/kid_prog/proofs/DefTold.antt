@@ -16,11 +16,15 @@ use Rattle.kid_codec.specs.Name.{is_name}
 use Rattle.kid_codec.specs.Reading.{◌>>=◌}
 use Rattle.kid_codec.specs.Shape.{form, quadruple}
 use Rattle.kid_codec.specs.SortSpelling.{headed, sort_spelling, is_spelled_sort, spelled_sort}
-use Rattle.kid_codec.specs.TermSpelling.{term_spelling, is_spelled_term, spelled_name, spelled_term}
+use Rattle.kid_codec.specs.NameSpelling.{spelled_name}
+use Rattle.kid_codec.specs.TermSpelling.{term_spelling, is_spelled_term, spelled_term}
 use Rattle.kid_codec.proofs.Found.{both_some, bind_some}
 use Rattle.kid_codec.proofs.SortTold.{sort_whole}
 use Rattle.kid_codec.proofs.ShapeTold.{form_told, quadruple_told}
 use Rattle.kid_codec.proofs.TermTold.{name_told, term_told}
+use Rattle.kid_prog.specs.Formats.{may_stand}
+use Rattle.kid_prog.specs.Tags.{definition_has_tags}
+use Rattle.kid_prog.specs.declared.format.Format.{Format}
 use Rattle.kid_prog.specs.Forms.{names_list, definition, def_parts, is_formed_definition, def_form}
 use Rattle.kid_prog.specs.Spelling.{names_spelling, definition_spelling, is_spelled_name, is_spelled_definition}
 use Rattle.kid_prog.proofs.Casts.{sorted_casts}
@@ -74,14 +78,16 @@ parts_told defs ts d p h =
     let told = made_told defs x l s t f.0 ps.0 m.0 m.1 f.1 ps.1 m.2 m.3 (subst (λ (e : PlainDef). is_sorted_definition defs e ≡ true) (sym m.4) h) in
     subst (PartsTold ts) m.4 (record { trees = quadruple_told ts q.0 q.1 ∙ told.trees; spelled = told.spelled })
 
-pub record DefTold (defs : List PlainDef) (t : Plain) (d : PlainDef) : Type 0 where
+pub record DefTold (f : Format) (defs : List PlainDef) (t : Plain) (d : PlainDef) : Type 0 where
+  pub stands : may_stand f (definition_has_tags d) ≡ true
   pub tree : t ≡ definition_spelling d
   pub spelled : is_spelled_definition d ≡ true
   pub sorted : is_sorted_definition defs d ≡ true
 
-pub def_told : (defs : List PlainDef) (t : Plain) (d : PlainDef) → def_form defs t ≡ Ok d → DefTold defs t d
-def_told defs t d p =
-    let r = judged_ok (is_formed_definition defs) (is_sorted_definition defs) (form (codes "def") t >>= def_parts) d p in
+pub def_told : (f : Format) (defs : List PlainDef) (t : Plain) (d : PlainDef) → def_form f defs t ≡ Ok d → DefTold f defs t d
+def_told f defs t d p =
+    let r = judged_ok (λ (e : PlainDef). may_stand f (definition_has_tags e) && is_formed_definition defs e) (is_sorted_definition defs) (form (codes "def") t >>= def_parts) d p in
     let n = bind_some (form (codes "def") t) def_parts d r.0 in
     let k = parts_told defs n.0 d n.2 r.2 in
-    record { tree = form_told (codes "def") t n.0 n.1 ∙ ap (headed (codes "def")) k.trees; spelled = k.spelled; sorted = r.2 }
+    let stands = (and_parts (may_stand f (definition_has_tags d)) (is_formed_definition defs d) r.1).0 in
+    record { stands = stands; tree = form_told (codes "def") t n.0 n.1 ∙ ap (headed (codes "def")) k.trees; spelled = k.spelled; sorted = r.2 }

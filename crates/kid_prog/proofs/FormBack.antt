@@ -22,11 +22,16 @@ use Rattle.kid_codec.specs.TermSpelling.{term_spelling, is_spelled_term}
 use Rattle.kid_codec.proofs.Numbers.{number_of-decimal}
 use Rattle.kid_codec.proofs.SortBack.{spelled_parts}
 use Rattle.kid_codec.proofs.TermBack.{term_back}
+use Rattle.kid_codec.specs.NamedValues.{term_has_tags}
+use Rattle.kid_prog.specs.Formats.{may_stand}
 use Rattle.kid_prog.specs.PlainStmt.{PlainStmts}
-use Rattle.kid_prog.specs.Spelling.{named_spelling, names_spelling, first_spelling, definition_spelling, stmt_spellings, is_spelled_name, is_spelled_definition, are_spelled_stmts}
+use Rattle.kid_prog.specs.Spelling.{named_spelling, names_spelling, format_spelling, first_spelling, definition_spelling, stmt_spellings, is_spelled_name, is_spelled_definition, are_spelled_stmts}
+use Rattle.kid_prog.specs.Tags.{name_has_tags, names_have_tags, definition_has_tags, stmts_have_tags, search_has_tags}
 use Rattle.kid_prog.specs.Forms.{judged, version_of, version_form, definition, def_parts, is_formed_definition, def_form, is_undeclared, input_form, require_form, output_form, counted, first_form, are_undeclared, if_proper, known_parameters, main_sorted, main_form, search_parts, search_sorted, search_form}
 use Rattle.kid_prog.specs.declared.fault.LoadCode.{LoadCode}
 use Rattle.kid_prog.specs.declared.fault.LoadCode.TheVariants as code
+use Rattle.kid_prog.specs.declared.format.Format.{Format}
+use Rattle.kid_prog.specs.declared.format.Format.TheVariants.{One, Two}
 use Rattle.kid_prog.proofs.SpellingBack.{named_back, names_back, stmts_back}
 
 abbrev made : {A : Type 0} → A → Result A LoadCode
@@ -36,8 +41,9 @@ made x = Ok x
 abbrev pub verdict : {A : Type 0} → Bool → Bool → A → Result A LoadCode
 verdict is_formed is_sorted x = if is_formed then (if is_sorted then Ok x else Err code.Sort) else Err code.Form
 
-pub version_back : version_form (headed (codes "program") (one (number_tree (pos 1)))) ≡ Ok tt
-version_back = ap version_of (number_of-decimal (pos 1) refl)
+pub version_back : (f : Format) → version_form (format_spelling f) ≡ Ok f
+version_back One = ap version_of (number_of-decimal (pos 1) refl)
+version_back Two = ap version_of (number_of-decimal (pos 2) refl)
 
 definition_back : (d : PlainDef) → is_spelled_definition d ≡ true → (form (codes "def") (definition_spelling d) >>= def_parts) ≡ Some d
 definition_back d h =
@@ -50,24 +56,24 @@ definition_back d h =
     let body = term_back d.body a.1 in
     λ i. name i >>= λ f. parameters i >>= λ ps. both (definition f ps) (sort i) (body i)
 
-pub def_back : (defs : List PlainDef) (d : PlainDef) → is_spelled_definition d ≡ true
-    → def_form defs (definition_spelling d) ≡ verdict (is_formed_definition defs d) (is_sorted_definition defs d) d
-def_back defs d h = ap (judged (is_formed_definition defs) (is_sorted_definition defs)) (definition_back d h)
+pub def_back : (f : Format) (defs : List PlainDef) (d : PlainDef) → is_spelled_definition d ≡ true
+    → def_form f defs (definition_spelling d) ≡ verdict (may_stand f (definition_has_tags d) && is_formed_definition defs d) (is_sorted_definition defs d) d
+def_back f defs d h = ap (judged (λ (e : PlainDef). may_stand f (definition_has_tags e) && is_formed_definition defs e) (is_sorted_definition defs)) (definition_back d h)
 
-pub input_back : (s : PlainSignature) (n : List ℕ × PlainSort) → is_spelled_name n ≡ true
-    → input_form s (headed (codes "input") (named_spelling n)) ≡ verdict (is_undeclared s n.0 && nat_lt (length s.inputs) 16) (is_allowed n.1) n
-input_back s n h =
-    ap (judged (λ (m : List ℕ × PlainSort). is_undeclared s m.0 && nat_lt (length s.inputs) 16) (λ (m : List ℕ × PlainSort). is_allowed m.1)) (named_back n h)
+pub input_back : (f : Format) (s : PlainSignature) (n : List ℕ × PlainSort) → is_spelled_name n ≡ true
+    → input_form f s (headed (codes "input") (named_spelling n)) ≡ verdict (may_stand f (name_has_tags n) && is_undeclared s n.0 && nat_lt (length s.inputs) 16) (is_allowed n.1) n
+input_back f s n h =
+    ap (judged (λ (m : List ℕ × PlainSort). may_stand f (name_has_tags m) && is_undeclared s m.0 && nat_lt (length s.inputs) 16) (λ (m : List ℕ × PlainSort). is_allowed m.1)) (named_back n h)
 
-pub require_back : (s : PlainSignature) (c : PlainTerm) → is_spelled_term c ≡ true
-    → require_form s (headed (codes "require") (one (term_spelling c))) ≡ verdict true (is_truth (sort_of s.definitions s.inputs c)) c
-require_back s c h =
-    ap (judged (λ (d : PlainTerm). true) (λ (d : PlainTerm). is_truth (sort_of s.definitions s.inputs d))) (term_back c h)
+pub require_back : (f : Format) (s : PlainSignature) (c : PlainTerm) → is_spelled_term c ≡ true
+    → require_form f s (headed (codes "require") (one (term_spelling c))) ≡ verdict (may_stand f (term_has_tags c)) (is_truth (sort_of s.definitions s.inputs c)) c
+require_back f s c h =
+    ap (judged (λ (d : PlainTerm). may_stand f (term_has_tags d)) (λ (d : PlainTerm). is_truth (sort_of s.definitions s.inputs d))) (term_back c h)
 
-pub output_back : (s : PlainSignature) (n : List ℕ × PlainSort) → is_spelled_name n ≡ true
-    → output_form s (headed (codes "output") (named_spelling n)) ≡ verdict (is_undeclared s n.0) (is_allowed n.1) n
-output_back s n h =
-    ap (judged (λ (m : List ℕ × PlainSort). is_undeclared s m.0) (λ (m : List ℕ × PlainSort). is_allowed m.1)) (named_back n h)
+pub output_back : (f : Format) (s : PlainSignature) (n : List ℕ × PlainSort) → is_spelled_name n ≡ true
+    → output_form f s (headed (codes "output") (named_spelling n)) ≡ verdict (may_stand f (name_has_tags n) && is_undeclared s n.0) (is_allowed n.1) n
+output_back f s n h =
+    ap (judged (λ (m : List ℕ × PlainSort). may_stand f (name_has_tags m) && is_undeclared s m.0) (λ (m : List ℕ × PlainSort). is_allowed m.1)) (named_back n h)
 
 -- a count is no large number
 pub count_small : (n : ℕ) → is_count n ≡ true → in_limits (pos n) ≡ true
@@ -79,25 +85,28 @@ pub first_back : (n : ℕ) → is_count n ≡ true → first_form (first_spellin
 first_back n h =
     ap counted (number_of-decimal (pos n) (count_small n h)) ∙ ap (λ (b : Bool). if b then made n else Err code.Form) h
 
-pub main_back : (s : PlainSignature) (a : PlainSort) (parameters : Option Names) (main : PlainStmts) → are_spelled_stmts main ≡ true
-    → main_form s a parameters (headed (codes "main") (stmt_spellings main)) ≡ verdict true (main_sorted s a parameters main) main
-main_back s a parameters main h = ap (judged (λ (ss : PlainStmts). true) (main_sorted s a parameters)) (stmts_back main h)
+pub main_back : (f : Format) (s : PlainSignature) (a : PlainSort) (parameters : Option Names) (main : PlainStmts) → are_spelled_stmts main ≡ true
+    → main_form f s a parameters (headed (codes "main") (stmt_spellings main)) ≡ verdict (may_stand f (stmts_have_tags main)) (main_sorted s a parameters main) main
+main_back f s a parameters main h = ap (judged (λ (ss : PlainStmts). may_stand f (stmts_have_tags ss)) (main_sorted s a parameters)) (stmts_back main h)
 
 -- the tree of the search procedure
 abbrev pub search_spelling : Names × PlainStmts → Plain
 search_spelling p = headed (codes "search") (more (list (names_spelling p.0)) (stmt_spellings p.1))
 
-pub search_back : (s : PlainSignature) (output : List ℕ × PlainSort) (search : Names × PlainStmts) → list_all is_spelled_name search.0 ≡ true → are_spelled_stmts search.1 ≡ true
-    → search_form s output (search_spelling search) ≡ verdict (are_undeclared s output search.0) (search_sorted s output.1 search) search
-search_back s output search h k =
+pub search_back : (f : Format) (s : PlainSignature) (output : List ℕ × PlainSort) (search : Names × PlainStmts) → list_all is_spelled_name search.0 ≡ true → are_spelled_stmts search.1 ≡ true
+    → search_form f s output (search_spelling search) ≡ verdict (may_stand f (search_has_tags search) && are_undeclared s output search.0) (search_sorted s output.1 search) search
+search_back f s output search h k =
     let names = names_back search.0 h in
     let body = stmts_back search.1 k in
     let parts : (form (codes "search") (search_spelling search) >>= search_parts) ≡ Some search = λ i. both (λ ns ss. (ns, ss)) (names i) (body i) in
-    ap (judged (λ (p : Names × PlainStmts). are_undeclared s output p.0) (search_sorted s output.1)) parts
+    ap (judged (λ (p : Names × PlainStmts). may_stand f (search_has_tags p) && are_undeclared s output p.0) (search_sorted s output.1)) parts
 
 -- main sees the parameters of the search procedure
-pub known_back : (s : PlainSignature) (output : List ℕ × PlainSort) (search : Names × PlainStmts) → list_all is_spelled_name search.0 ≡ true
-    → are_undeclared s output search.0 ≡ true → are_allowed search.0 ≡ true → known_parameters s output (one (search_spelling search)) ≡ Some search.0
-known_back s output search h new allowed =
-    ap (λ (o : Option Names). o >>= if_proper s output) (names_back search.0 h)
-    ∙ ap (λ (b : Bool). if b then Some search.0 else None) (and_both (are_undeclared s output search.0) (are_allowed search.0) new allowed)
+pub known_back : (f : Format) (s : PlainSignature) (output : List ℕ × PlainSort) (search : Names × PlainStmts) → list_all is_spelled_name search.0 ≡ true
+    → may_stand f (names_have_tags search.0) ≡ true → are_undeclared s output search.0 ≡ true → are_allowed search.0 ≡ true
+    → known_parameters f s output (one (search_spelling search)) ≡ Some search.0
+known_back f s output search h stand new allowed =
+    ap (λ (o : Option Names). o >>= if_proper f s output) (names_back search.0 h)
+    ∙ ap (λ (b : Bool). if b then Some search.0 else None)
+    (and_both (may_stand f (names_have_tags search.0) && are_undeclared s output search.0) (are_allowed search.0)
+    (and_both (may_stand f (names_have_tags search.0)) (are_undeclared s output search.0) stand new) allowed)

@@ -12,7 +12,8 @@ use Rattle.kid_sorting.specs.Declaring.{are_allowed}
 use Rattle.kid_codec.specs.Name.{is_name}
 use Rattle.kid_codec.specs.Shape.{form, couple}
 use Rattle.kid_codec.specs.SortSpelling.{headed, is_spelled_sort, spelled_sort}
-use Rattle.kid_codec.specs.TermSpelling.{is_spelled_term, are_spelled_terms, casts_are_allowed, all_casts_are_allowed, spelled_name, spelled_term, spelled_terms}
+use Rattle.kid_codec.specs.NameSpelling.{spelled_name}
+use Rattle.kid_codec.specs.TermSpelling.{is_spelled_term, are_spelled_terms, casts_are_allowed, all_casts_are_allowed, spelled_term, spelled_terms}
 use Rattle.kid_codec.proofs.Found.{same_some, mapped, both_some, bind_some}
 use Rattle.kid_codec.proofs.SortTold.{sort_whole}
 use Rattle.kid_codec.proofs.ShapeTold.{form_told, couple_told}

@@ -5,7 +5,9 @@ use Rattle.kid_sexp.specs.Spells.{Spells}
 use Rattle.kid_sexp.proofs.Printed.{text-only}
 use Rattle.kid_sexp.proofs.Spelled.{reading-spelled}
 use Rattle.kid_prog.specs.PlainProgram.{PlainProgram}
+use Rattle.kid_prog.specs.Formats.{format_for}
 use Rattle.kid_prog.specs.ProgramText.{program_text}
+use Rattle.kid_prog.specs.Tags.{program_has_tags}
 use Rattle.kid_prog.specs.Laws.{IsLoaded, LoadsAreSpelled, TextsGiveBack}
 use Rattle.kid_prog.specs.Loading.{Loads, loading}
 use Rattle.kid_prog.specs.ProgramView.{plain_program}
@@ -26,7 +28,7 @@ pub loads_spelled : LoadsAreSpelled
 loads_spelled bytes p e =
     let f = loaded_forest bytes p e in
     let told = program_told f.0 p f.2 in
-    record { runnable = told.runnable; spelled = told.spelled; spells = subst (Spells bytes) told.trees (reading-spelled bytes f.0 f.1) }
+    record { runnable = told.runnable; spelled = told.spelled; format = told.format; stands = told.stands; spells = subst (Spells bytes) told.trees (reading-spelled bytes f.0 f.1) }
 
 -- a program that was loaded
 pub loaded_result : (bytes : List ℕ) (r : Result Program LoadFault) → Loads plain_program r (loading bytes) → IfOk r (λ p. IsLoaded bytes (plain_program p))
@@ -38,4 +40,4 @@ texts_back p q h e =
     let f = loaded_forest (program_text p) q e in
     let told = program_told f.0 q f.2 in
     let same = text-only (program_spelling p) f.0 (program_printable p h) f.1 in
-    spelling_same q p (spelled_parts q told.spelled) (spelled_parts p h) (sym told.trees ∙ same)
+    spelling_same told.format (format_for (program_has_tags p)) q p (spelled_parts q told.spelled) (spelled_parts p h) (sym told.trees ∙ same)

@@ -1,4 +1,5 @@
 pub mod ProgramParts
+pub mod Standing
 pub mod Words
 pub mod Printable
 pub mod Trees
@@ -24,3 +25,4 @@ pub mod Depths
 pub mod Settings
 pub mod EventLists
 pub mod RunDepths
+pub mod TagLemmas

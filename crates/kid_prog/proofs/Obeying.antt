@@ -1,7 +1,7 @@
 -- Statements that meet the rules one after another.
 use Rattle.std.proofs.Common.{◌≡◌, ℕ, ◌+◌, ◌<◌, ◌≤◌, Bool, true, false, not, ◌&&◌, if◌then◌else◌, List, ◌∷◌, length, get_or, drop, map, Option, Some, None, Ok, Err, refl, sym, ap, ◌∙◌, arith, subst}
 use Rattle.std.proofs.lemmas.List.{drop_all}
-use Rattle.kid_value.specs.PlainSort.{never, bools, ints, pairs, sets, seqs, maps}
+use Rattle.kid_value.specs.PlainSort.{never, bools, ints, pairs, sets, seqs, maps, enums}
 use Rattle.kid_term.specs.Names.{Names, is_named}
 use Rattle.kid_term.specs.Sorted.{Sorted}
 use Rattle.kid_term.specs.Sorting.{sort_of}
@@ -30,6 +30,7 @@ ranges-held names x (Ok (pairs a b)) test = refl
 ranges-held names x (Ok (sets a)) test = new-held (is_named x names) (with_name names x a) test
 ranges-held names x (Ok (seqs a n)) test = refl
 ranges-held names x (Ok (maps a b)) test = refl
+ranges-held names x (Ok (enums ns)) test = refl
 ranges-held names x (Err fault) test = refl
 
 kept-held : (b : Bool) (names : Names) (test : Names → Bool) → (b && test names) ≡ held (kept names b) test

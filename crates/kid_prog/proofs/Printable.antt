@@ -6,23 +6,28 @@ use Rattle.std.specs.Fmt.{decimal, signed_decimal}
 use Rattle.std.proofs.lemmas.Bool.Decides.{nat_tests}
 use Rattle.kid_sexp.specs.Plain.{Plains}
 use Rattle.kid_sexp.specs.Printing.{is_word, is_printable_tree, is_printable}
-use Rattle.kid_value.specs.PlainSort.{PlainSort, never, bools, ints, pairs, sets, seqs, maps, has_never}
+use Rattle.kid_value.specs.PlainSort.{PlainSort, never, bools, ints, pairs, sets, seqs, maps, enums, has_never}
 use Rattle.kid_value.specs.SortCount.{count_of}
 use Rattle.kid_value.specs.SortLimits.{sort_depth, is_bounded, is_allowed}
 use Rattle.kid_value.proofs.SortLemmas.{and_parts, and_both}
 use Rattle.kid_term.specs.Names.{Names, PlainDef}
 use Rattle.kid_term.specs.PlainSpec.{is_wanted}
-use Rattle.kid_term.specs.PlainTerm.{op, call, cast, PlainTerm, var, number, truth, app, bind, PlainTerms, no_term, term, terms, term_row}
+use Rattle.kid_term.specs.PlainTerm.{op, call, cast, PlainTerm, var, number, truth, tag, app, bind, PlainTerms, no_term, term, terms, term_row}
 use Rattle.kid_codec.specs.Name.{is_name}
+use Rattle.kid_codec.specs.NameSpelling.{name_spellings, tag_word}
 use Rattle.kid_codec.specs.Number.{number_of}
-use Rattle.kid_codec.specs.SortSpelling.{sort_spelling, is_spelled_sort}
+use Rattle.kid_codec.specs.SortSpelling.{sort_spelling, has_spelled_names, is_spelled_sort}
 use Rattle.kid_codec.specs.TermSpelling.{term_spelling, term_spellings, is_spelled_head, is_spelled_term, are_spelled_terms}
 use Rattle.kid_codec.specs.Word.{word_of, binder_word}
 use Rattle.kid_codec.proofs.Found.{both_some}
 use Rattle.kid_codec.proofs.SortBack.{sort_back}
 use Rattle.kid_prog.specs.PlainStmt.{PlainStmt, assign, when, each, emit, call as calling, PlainStmts, no_stmt, stmt}
 use Rattle.kid_prog.specs.PlainProgram.{PlainProgram}
-use Rattle.kid_prog.specs.Spelling.{stmt_spelling, stmt_spellings, names_spelling, definition_spelling, definitions_before, inputs_before, first_before, main_forms, last_forms, program_spelling, is_spelled_stmt, are_spelled_stmts, is_spelled_name, is_spelled_definition, is_spelled_program}
+use Rattle.kid_prog.specs.Formats.{format_for}
+use Rattle.kid_prog.specs.Tags.{program_has_tags}
+use Rattle.kid_prog.specs.declared.format.Format.{Format}
+use Rattle.kid_prog.specs.declared.format.Format.TheVariants.{One, Two}
+use Rattle.kid_prog.specs.Spelling.{stmt_spelling, stmt_spellings, names_spelling, definition_spelling, definitions_before, inputs_before, first_before, main_forms, last_forms, format_spelling, program_spelling, is_spelled_stmt, are_spelled_stmts, is_spelled_name, is_spelled_definition, is_spelled_program}
 use Rattle.kid_prog.proofs.FormBack.{count_small}
 use Rattle.kid_prog.proofs.ProgramParts.{spelled_parts}
 use Rattle.kid_prog.proofs.Words.{name_word, decimal_word, number_word, read_number_word, op_word, binder_is_word}
@@ -33,29 +38,44 @@ alone b h = and_both b true h refl
 bound_word : (n : ℕ) → nat_le n 65536 ≡ true → is_word (decimal n) ≡ true
 bound_word n h = decimal_word n (let k : n < 65537 = grind (arith, nat_tests) in omega arith)
 
-sort_printable : (s : PlainSort) → is_bounded s ≡ true → is_printable_tree (sort_spelling s) ≡ true
-sort_printable never b = refl
-sort_printable bools b = refl
-sort_printable (ints lo hi) b =
-    let m = both_some ints (number_of (signed_decimal lo)) (number_of (signed_decimal hi)) (ints lo hi) (sort_back (ints lo hi) b refl) in
+names_are_words : (ns : List (List ℕ)) → list_all is_name ns ≡ true → is_printable (name_spellings ns) ≡ true
+names_are_words [] h = refl
+names_are_words (n ∷ ns) h =
+    let r = and_parts (is_name n) (list_all is_name ns) h in
+    and_both (is_word n) (is_printable (name_spellings ns)) (name_word n r.0) (names_are_words ns r.1)
+
+sort_printable : (s : PlainSort) → is_bounded s ≡ true → has_spelled_names s ≡ true → is_printable_tree (sort_spelling s) ≡ true
+sort_printable never b h = refl
+sort_printable bools b h = refl
+sort_printable (ints lo hi) b h =
+    let m = both_some ints (number_of (signed_decimal lo)) (number_of (signed_decimal hi)) (ints lo hi) (sort_back (ints lo hi) b refl refl) in
     and_both (is_word (signed_decimal lo)) (is_word (signed_decimal hi) && true) (read_number_word (signed_decimal lo) m.0 m.2) (alone (is_word (signed_decimal hi)) (read_number_word (signed_decimal hi) m.1 m.3))
-sort_printable (pairs s t) b =
+sort_printable (pairs s t) b h =
     let r = and_parts (is_bounded s) (is_bounded t) b in
-    and_both (is_printable_tree (sort_spelling s)) (is_printable_tree (sort_spelling t) && true) (sort_printable s r.0) (alone (is_printable_tree (sort_spelling t)) (sort_printable t r.1))
-sort_printable (sets s) b =
-    alone (is_printable_tree (sort_spelling s)) (sort_printable s (and_parts (is_bounded s) (nat_le (count_of s) 65536) b).0)
-sort_printable (seqs s k) b =
+    let n = and_parts (has_spelled_names s) (has_spelled_names t) h in
+    and_both (is_printable_tree (sort_spelling s)) (is_printable_tree (sort_spelling t) && true) (sort_printable s r.0 n.0) (alone (is_printable_tree (sort_spelling t)) (sort_printable t r.1 n.1))
+sort_printable (sets s) b h =
+    alone (is_printable_tree (sort_spelling s)) (sort_printable s (and_parts (is_bounded s) (nat_le (count_of s) 65536) b).0 h)
+sort_printable (seqs s k) b h =
     let r = and_parts (is_bounded s) (nat_le k 65536) b in
-    and_both (is_printable_tree (sort_spelling s)) (is_word (decimal k) && true) (sort_printable s r.0) (alone (is_word (decimal k)) (bound_word k r.1))
-sort_printable (maps s t) b =
+    and_both (is_printable_tree (sort_spelling s)) (is_word (decimal k) && true) (sort_printable s r.0 h) (alone (is_word (decimal k)) (bound_word k r.1))
+sort_printable (maps s t) b h =
     let r = and_parts (is_bounded s && nat_le (count_of s) 65536) (is_bounded t) b in
     let u = and_parts (is_bounded s) (nat_le (count_of s) 65536) r.0 in
-    and_both (is_printable_tree (sort_spelling s)) (is_printable_tree (sort_spelling t) && true) (sort_printable s u.0) (alone (is_printable_tree (sort_spelling t)) (sort_printable t r.1))
+    let n = and_parts (has_spelled_names s) (has_spelled_names t) h in
+    and_both (is_printable_tree (sort_spelling s)) (is_printable_tree (sort_spelling t) && true) (sort_printable s u.0 n.0) (alone (is_printable_tree (sort_spelling t)) (sort_printable t r.1 n.1))
+sort_printable (enums ns) b h = names_are_words ns h
 
 spelled_sort_printable : (s : PlainSort) → is_spelled_sort s ≡ true → is_printable_tree (sort_spelling s) ≡ true
 spelled_sort_printable s h =
-    let r = and_parts (is_allowed s) (not (has_never s)) h in
-    sort_printable s (and_parts (nat_le (sort_depth s) 8) (is_bounded s) r.0).1
+    let q = and_parts (is_allowed s && not (has_never s)) (has_spelled_names s) h in
+    let r = and_parts (is_allowed s) (not (has_never s)) q.0 in
+    sort_printable s (and_parts (nat_le (sort_depth s) 8) (is_bounded s) r.0).1 q.1
+
+-- an apostrophe may stand in a word
+tag_is_word : (n : List ℕ) → is_name n ≡ true → is_word (tag_word n) ≡ true
+tag_is_word [] h = cc
+tag_is_word (c ∷ cs) h = name_word (c ∷ cs) h
 
 mutual
   term_printable : (t : PlainTerm) → is_spelled_term t ≡ true → is_printable_tree (term_spelling t) ≡ true
@@ -63,6 +83,7 @@ mutual
   term_printable (number n) h = number_word n h
   term_printable (truth true) h = refl
   term_printable (truth false) h = refl
+  term_printable (tag n) h = tag_is_word n h
   term_printable (app (op o) ts) h =
       let r = and_parts (is_spelled_head (op o) (terms ts)) (are_spelled_terms ts) h in
       and_both (is_word (word_of o)) (is_printable (term_spellings ts)) (op_word o) (terms_printable ts r.1)
@@ -146,6 +167,10 @@ first_printable None rest h k = k
 first_printable (Some n) rest h k =
     and_both (is_word (decimal n) && true) (is_printable rest) (alone (is_word (decimal n)) (number_word (pos n) (count_small n h))) k
 
+format_printable : (f : Format) → is_printable_tree (format_spelling f) ≡ true
+format_printable One = alone (is_word (decimal 1)) (number_word (pos 1) refl)
+format_printable Two = alone (is_word (decimal 2)) (number_word (pos 2) refl)
+
 pub program_printable : (p : PlainProgram) → is_spelled_program p ≡ true → is_printable (program_spelling p) ≡ true
 program_printable p h =
     let s = spelled_parts p h in
@@ -156,5 +181,5 @@ program_printable p h =
     (and_both (is_word p.output && (is_printable_tree (sort_spelling p.sort) && true)) _ (name_printable p.output p.sort s.output)
     (first_printable p.first (main_forms p) s.wanted
     (and_both (is_printable (stmt_spellings p.main)) _ (stmts_printable p.main s.main) (alone _ search)))) in
-    and_both (is_word (decimal 1) && true) _ (alone (is_word (decimal 1)) (number_word (pos 1) refl))
+    and_both (is_printable_tree (format_spelling (format_for (program_has_tags p)))) _ (format_printable (format_for (program_has_tags p)))
     (definitions_printable p.definitions (inputs_before p.inputs (last_forms p)) s.definitions (inputs_printable p.inputs (last_forms p) s.inputs last))

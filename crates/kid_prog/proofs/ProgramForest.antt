@@ -1,13 +1,16 @@
 -- The forms of a program, put one after another.
-use Rattle.std.proofs.Common.{◌≡◌, ℕ, List, [], ◌∷◌, Option, Some, None, refl, ap, ◌∙◌}
-use Rattle.std.specs.Prelude.{codes, pos}
+use Rattle.std.proofs.Common.{◌≡◌, ℕ, List, [], ◌∷◌, Option, Some, None, refl, sym, ap, ◌∙◌}
+use Rattle.std.specs.Prelude.{codes}
 use Rattle.kid_sexp.specs.Plain.{Plain, Plains, list, none, more, one, join}
+use Rattle.kid_sexp.specs.PlainCode.{join-none}
 use Rattle.kid_term.specs.Names.{Names, PlainDef}
-use Rattle.kid_codec.specs.SortSpelling.{number_tree, headed}
+use Rattle.kid_codec.specs.SortSpelling.{headed}
 use Rattle.kid_codec.specs.TermSpelling.{term_spelling}
 use Rattle.kid_codec.proofs.Each.{join-one}
 use Rattle.kid_prog.specs.PlainProgram.{PlainProgram}
-use Rattle.kid_prog.specs.Spelling.{stmt_spellings, named_spelling, names_spelling, definition_spelling, definitions_before, inputs_before, first_spelling, first_before, main_forms, last_forms, program_spelling}
+use Rattle.kid_prog.specs.Spelling.{stmt_spellings, named_spelling, names_spelling, definition_spelling, definitions_before, inputs_before, format_spelling, first_spelling, first_before, main_forms, last_forms, program_spelling}
+use Rattle.kid_prog.specs.Formats.{format_for}
+use Rattle.kid_prog.specs.Tags.{program_has_tags}
 
 join-join : (ts us vs : Plains) → join (join ts us) vs ≡ join ts (join us vs)
 join-join none us vs = refl
@@ -28,6 +31,15 @@ first-joined start pushed forms new t v ds es ms ns a b c d e f g =
     let begun : forms ≡ more v (definitions_before es none) = d ∙ (λ i. join (front i) (definitions_before (e i) none)) in
     f ∙ (λ i. join (begun i) (inputs_before (g i) none)) ∙ ap (more v) (definitions-join es none (inputs_before ns none))
 
+pub nothing_put : (f : Plains) → f ≡ join f none
+nothing_put f = sym (join-none f)
+
+pub one_put : (f g : Plains) (t u : Plain) → g ≡ join f (one t) → t ≡ u → g ≡ join f (more u none)
+one_put f g t u p q = p ∙ ap (λ (v : Plain). join f (one v)) q
+
+-- what is put where all values are wanted, and where not all are
+pub ruleset puts = (nothing_put, one_put)
+
 first-join : (first : Option ℕ) (rest : Plains) → join (first_before first none) rest ≡ first_before first rest
 first-join None rest = refl
 first-join (Some n) rest = refl
@@ -42,7 +54,7 @@ between f g h ts us first p q =
     ∙ ap (λ (vs : Plains). join vs (first_before first us)) p ∙ join-join f ts (first_before first us)
 
 pub last-joined : (p : PlainProgram) (f a b c d e : Plains) (r o m s : Plain)
-    → f ≡ more (headed (codes "program") (one (number_tree (pos 1)))) (definitions_before p.definitions (inputs_before p.inputs none))
+    → f ≡ more (format_spelling (format_for (program_has_tags p))) (definitions_before p.definitions (inputs_before p.inputs none))
     → a ≡ join f (one r) → b ≡ join a (one o) → c ≡ join b (first_before p.first none) → d ≡ join c (one m) → e ≡ join d (one s)
     → r ≡ headed (codes "require") (one (term_spelling p.condition)) → o ≡ headed (codes "output") (named_spelling (p.output, p.sort))
     → m ≡ headed (codes "main") (stmt_spellings p.main) → s ≡ headed (codes "search") (more (list (names_spelling p.parameters)) (stmt_spellings p.search))
@@ -50,5 +62,5 @@ pub last-joined : (p : PlainProgram) (f a b c d e : Plains) (r o m s : Plain)
 last-joined p f a b c d e r o m s first t u v w x j k l n =
     two-joined c d e m s w x ∙ between f b c (more r (one o)) (more m (one s)) p.first (two-joined f a b r o t u) v
     ∙ (λ i. join (first i) (more (j i) (more (k i) (first_before p.first (more (l i) (one (n i)))))))
-    ∙ ap (more (headed (codes "program") (one (number_tree (pos 1)))))
+    ∙ ap (more (format_spelling (format_for (program_has_tags p))))
     (definitions-join p.definitions (inputs_before p.inputs none) (last_forms p) ∙ ap (definitions_before p.definitions) (inputs-join p.inputs (last_forms p)))

@@ -1,4 +1,4 @@
--- Programs with one spelling are one program.
+-- Programs with one spelling are one program, in whatever formats.
 use Rattle.std.proofs.Common.{◌≡◌, ℕ, true, false, List, [], ◌∷◌, Option, Some, None, Result, Ok, refl, sym, ap, ◌∙◌}
 use Rattle.std.specs.Prelude.{codes}
 use Rattle.std.specs.List.{list_all}
@@ -18,9 +18,10 @@ use Rattle.kid_codec.proofs.TermBack.{term_back}
 use Rattle.kid_prog.specs.Forms.{named_pair, spelled_names, first_form}
 use Rattle.kid_prog.specs.PlainProgram.{PlainProgram}
 use Rattle.kid_prog.specs.PlainStmt.{PlainStmts}
-use Rattle.kid_prog.specs.Spelling.{stmt_spellings, named_spelling, names_spelling, definition_spelling, definitions_before, inputs_before, first_spelling, first_before, main_forms, last_forms, program_spelling, are_spelled_stmts, is_spelled_name, is_spelled_definition}
+use Rattle.kid_prog.specs.Spelling.{stmt_spellings, named_spelling, names_spelling, definition_spelling, definitions_before, inputs_before, first_spelling, first_before, main_forms, last_forms, spelling_in, are_spelled_stmts, is_spelled_name, is_spelled_definition}
 use Rattle.kid_prog.specs.StmtShape.{spelled_stmts}
 use Rattle.kid_prog.specs.declared.fault.LoadCode.{LoadCode}
+use Rattle.kid_prog.specs.declared.format.Format.{Format}
 use Rattle.kid_prog.proofs.FormBack.{first_back}
 use Rattle.kid_prog.proofs.ProgramParts.{IsSpelled}
 use Rattle.kid_prog.proofs.SpellingBack.{named_back, names_back, stmts_back}
@@ -132,8 +133,8 @@ inputs_define_nothing : (ns : Names) (p : PlainProgram) → bytes_eq (first_word
 inputs_define_nothing [] p = refl
 inputs_define_nothing (n ∷ ns) p = refl
 
-pub spelling_same : (p q : PlainProgram) → IsSpelled p → IsSpelled q → program_spelling p ≡ program_spelling q → p ≡ q
-spelling_same p q h k e =
+pub spelling_same : (f g : Format) (p q : PlainProgram) → IsSpelled p → IsSpelled q → spelling_in f p ≡ spelling_in g q → p ≡ q
+spelling_same f g p q h k e =
     let d = definitions_same p.definitions q.definitions (inputs_before p.inputs (last_forms p)) (inputs_before q.inputs (last_forms q)) h.definitions k.definitions
     (inputs_define_nothing p.inputs p) (inputs_define_nothing q.inputs q) (ap others e) in
     let n = inputs_same p.inputs q.inputs (last_forms p) (last_forms q) h.inputs k.inputs refl refl d.1 in
@@ -141,11 +142,11 @@ spelling_same p q h k e =
     let inputs = n.0 in
     let condition = term_same p.condition q.condition h.condition k.condition (ap (λ (ts : Plains). first (behind (first ts))) n.1) in
     let output = named_same (p.output, p.sort) (q.output, q.sort) h.output k.output (ap (λ (ts : Plains). behind (first (others ts))) n.1) in
-    let f = first_same p.first q.first (main_forms p) (main_forms q) h.wanted k.wanted refl refl (ap (λ (ts : Plains). others (others ts)) n.1) in
-    let wanted = f.0 in
-    let main = stmts_same p.main q.main h.main k.main (ap (λ (ts : Plains). behind (first ts)) f.1) in
-    let parameters = names_same p.parameters q.parameters h.parameters k.parameters (ap (λ (ts : Plains). inner (first (behind (first (others ts))))) f.1) in
-    let search = stmts_same p.search q.search h.search k.search (ap (λ (ts : Plains). others (behind (first (others ts)))) f.1) in
+    let c = first_same p.first q.first (main_forms p) (main_forms q) h.wanted k.wanted refl refl (ap (λ (ts : Plains). others (others ts)) n.1) in
+    let wanted = c.0 in
+    let main = stmts_same p.main q.main h.main k.main (ap (λ (ts : Plains). behind (first ts)) c.1) in
+    let parameters = names_same p.parameters q.parameters h.parameters k.parameters (ap (λ (ts : Plains). inner (first (behind (first (others ts))))) c.1) in
+    let search = stmts_same p.search q.search h.search k.search (ap (λ (ts : Plains). others (behind (first (others ts)))) c.1) in
     λ i. record {
       definitions = definitions i;
       inputs = inputs i;

@@ -25,6 +25,7 @@ use Rattle.kid_prog.specs.Loading.{Loaded, ◌>>=◌, refused, at, Heading, prog
 use Rattle.kid_prog.specs.declared.fault.LoadCode.{LoadCode}
 use Rattle.kid_prog.specs.declared.fault.LoadCode.TheVariants as code
 use Rattle.kid_prog.specs.declared.fault.LoadFault.{LoadFault}
+use Rattle.kid_prog.specs.declared.format.Format.{Format}
 use Rattle.kid_prog.specs.ProgramView.{plain_program}
 use Rattle.kid_prog.specs.declared.program.Program.{Program}
 
@@ -41,22 +42,22 @@ ended_not k p [] h = cc
 ended_not k p (t ∷ ts) h = let e : suc k ≡ k + 1 = omega arith in ap (λ j. refused j code.Form) e
 
 pub main-next : (k m : ℕ) (h : Heading) (main : PlainStmts) (trees rest : List Tree) (tree : Tree) (r : Result (Names × List PlainStmt) LoadCode) (s : Names × List PlainStmt) (p : PlainProgram)
-    → suc k ≡ m → trees ≡ tree ∷ rest → Judges (λ q. (q.0, stmt_row q.1)) r (search_form h.signature h.output (plain tree)) → numbered m r ≡ Ok s
+    → suc k ≡ m → trees ≡ tree ∷ rest → Judges (λ q. (q.0, stmt_row q.1)) r (search_form h.format h.signature h.output (plain tree)) → numbered m r ≡ Ok s
     → p ≡ program_with h main (s.0, stmt_row s.1)
     → after_main k h main (plains trees) ≡ at_end m p (plains rest)
 main-next k m h main trees rest tree r s p e are judged held is =
     ap (λ (ts : List Tree). after_main k h main (plains ts)) are
-    ∙ ap (λ j. at j (search_form h.signature h.output (plain tree)) >>= λ search. at_end j (program_with h main search) (plains rest)) e
-    ∙ passed (λ q. (q.0, stmt_row q.1)) r (search_form h.signature h.output (plain tree)) m s (λ search. at_end m (program_with h main search) (plains rest)) judged held
+    ∙ ap (λ j. at j (search_form h.format h.signature h.output (plain tree)) >>= λ search. at_end j (program_with h main search) (plains rest)) e
+    ∙ passed (λ q. (q.0, stmt_row q.1)) r (search_form h.format h.signature h.output (plain tree)) m s (λ search. at_end m (program_with h main search) (plains rest)) judged held
     ∙ ap (λ q. at_end m q (plains rest)) (sym is)
 
-pub condition-next : (k m : ℕ) (s : PlainSignature) (condition : PlainTerm) (trees rest : List Tree) (tree : Tree) (r : Result (List ℕ × Sort) LoadCode) (n : List ℕ × Sort)
-    → suc k ≡ m → trees ≡ tree ∷ rest → Judges plain_name r (output_form s (plain tree)) → numbered m r ≡ Ok n
-    → after_condition k s condition (plains trees) ≡ after_output m (record { signature = s; condition = condition; output = plain_name n; first = None }) (plains rest)
-condition-next k m s condition trees rest tree r n e are judged held =
-    ap (λ (ts : List Tree). after_condition k s condition (plains ts)) are
-    ∙ ap (λ j. at j (output_form s (plain tree)) >>= λ output. after_output j (record { signature = s; condition = condition; output = output; first = None }) (plains rest)) e
-    ∙ passed plain_name r (output_form s (plain tree)) m n (λ output. after_output m (record { signature = s; condition = condition; output = output; first = None }) (plains rest)) judged held
+pub condition-next : (k m : ℕ) (f : Format) (s : PlainSignature) (condition : PlainTerm) (trees rest : List Tree) (tree : Tree) (r : Result (List ℕ × Sort) LoadCode) (n : List ℕ × Sort)
+    → suc k ≡ m → trees ≡ tree ∷ rest → Judges plain_name r (output_form f s (plain tree)) → numbered m r ≡ Ok n
+    → after_condition k f s condition (plains trees) ≡ after_output m (record { format = f; signature = s; condition = condition; output = plain_name n; first = None }) (plains rest)
+condition-next k m f s condition trees rest tree r n e are judged held =
+    ap (λ (ts : List Tree). after_condition k f s condition (plains ts)) are
+    ∙ ap (λ j. at j (output_form f s (plain tree)) >>= λ output. after_output j (record { format = f; signature = s; condition = condition; output = output; first = None }) (plains rest)) e
+    ∙ passed plain_name r (output_form f s (plain tree)) m n (λ output. after_output m (record { format = f; signature = s; condition = condition; output = output; first = None }) (plains rest)) judged held
 
 -- what the next of the forms after the output leads to
 abbrev first_stage : ℕ → ℕ → Heading → Tree → List Tree → Bool → Loaded PlainProgram
@@ -81,40 +82,35 @@ first-next k m h with_one trees rest tree r n e are is judged held grown =
     ∙ passed (λ c. c) r (first_form (plain tree)) m n (λ c. after_first m (with_first h c) (plains rest)) judged held
     ∙ ap (λ z. after_first m z (plains rest)) (sym grown)
 
-pub first-none : (k : ℕ) (h : Heading) (trees rest : List Tree) (tree : Tree) → trees ≡ tree ∷ rest → is_first (plain tree) ≡ false
-    → after_output k h (plains trees) ≡ after_first k h (plains trees)
-first-none k h trees rest tree are is =
-    first_staged k (suc k) h trees rest tree false refl are is ∙ ap (λ (ts : List Tree). after_first k h (plains ts)) (sym are)
-
 -- what the next of the forms after inputs leads to
-abbrev stage : ℕ → PlainSignature → Tree → List Tree → Bool → Loaded PlainProgram
-stage k s tree rest b =
+abbrev stage : ℕ → Format → PlainSignature → Tree → List Tree → Bool → Loaded PlainProgram
+stage k f s tree rest b =
     if b
-    then (at k (input_form s (plain tree)) >>= λ n. after_inputs k (with_input s n) (plains rest))
-    else (at k (require_form s (plain tree)) >>= λ condition. after_condition k s condition (plains rest))
+    then (at k (input_form f s (plain tree)) >>= λ n. after_inputs k f (with_input s n) (plains rest))
+    else (at k (require_form f s (plain tree)) >>= λ condition. after_condition k f s condition (plains rest))
 
-staged : (k m : ℕ) (s : PlainSignature) (trees rest : List Tree) (tree : Tree) (b : Bool) → suc k ≡ m → trees ≡ tree ∷ rest → is_input (plain tree) ≡ b
-    → after_inputs k s (plains trees) ≡ stage m s tree rest b
-staged k m s trees rest tree b e are is =
-    ap (λ (ts : List Tree). after_inputs k s (plains ts)) are
-    ∙ ap (λ j. stage j s tree rest (is_input (plain tree))) e
-    ∙ ap (λ c. stage m s tree rest c) is
+staged : (k m : ℕ) (f : Format) (s : PlainSignature) (trees rest : List Tree) (tree : Tree) (b : Bool) → suc k ≡ m → trees ≡ tree ∷ rest → is_input (plain tree) ≡ b
+    → after_inputs k f s (plains trees) ≡ stage m f s tree rest b
+staged k m f s trees rest tree b e are is =
+    ap (λ (ts : List Tree). after_inputs k f s (plains ts)) are
+    ∙ ap (λ j. stage j f s tree rest (is_input (plain tree))) e
+    ∙ ap (λ c. stage m f s tree rest c) is
 
-pub input-next : (k m : ℕ) (s with_one : PlainSignature) (trees rest : List Tree) (tree : Tree) (r : Result (List ℕ × Sort) LoadCode) (n : List ℕ × Sort)
-    → suc k ≡ m → trees ≡ tree ∷ rest → is_input (plain tree) ≡ true → Judges plain_name r (input_form s (plain tree)) → numbered m r ≡ Ok n
+pub input-next : (k m : ℕ) (f : Format) (s with_one : PlainSignature) (trees rest : List Tree) (tree : Tree) (r : Result (List ℕ × Sort) LoadCode) (n : List ℕ × Sort)
+    → suc k ≡ m → trees ≡ tree ∷ rest → is_input (plain tree) ≡ true → Judges plain_name r (input_form f s (plain tree)) → numbered m r ≡ Ok n
     → with_one ≡ with_input s (plain_name n)
-    → after_inputs k s (plains trees) ≡ after_inputs m with_one (plains rest)
-input-next k m s with_one trees rest tree r n e are is judged held grown =
-    staged k m s trees rest tree true e are is
-    ∙ passed plain_name r (input_form s (plain tree)) m n (λ x. after_inputs m (with_input s x) (plains rest)) judged held
-    ∙ ap (λ z. after_inputs m z (plains rest)) (sym grown)
+    → after_inputs k f s (plains trees) ≡ after_inputs m f with_one (plains rest)
+input-next k m f s with_one trees rest tree r n e are is judged held grown =
+    staged k m f s trees rest tree true e are is
+    ∙ passed plain_name r (input_form f s (plain tree)) m n (λ x. after_inputs m f (with_input s x) (plains rest)) judged held
+    ∙ ap (λ z. after_inputs m f z (plains rest)) (sym grown)
 
-pub require-next : (k m : ℕ) (s : PlainSignature) (trees rest : List Tree) (tree : Tree) (r : Result Term LoadCode) (t : Term)
-    → suc k ≡ m → trees ≡ tree ∷ rest → is_input (plain tree) ≡ false → Judges plain_term r (require_form s (plain tree)) → numbered m r ≡ Ok t
-    → after_inputs k s (plains trees) ≡ after_condition m s (plain_term t) (plains rest)
-require-next k m s trees rest tree r t e are is judged held =
-    staged k m s trees rest tree false e are is
-    ∙ passed plain_term r (require_form s (plain tree)) m t (λ condition. after_condition m s condition (plains rest)) judged held
+pub require-next : (k m : ℕ) (f : Format) (s : PlainSignature) (trees rest : List Tree) (tree : Tree) (r : Result Term LoadCode) (t : Term)
+    → suc k ≡ m → trees ≡ tree ∷ rest → is_input (plain tree) ≡ false → Judges plain_term r (require_form f s (plain tree)) → numbered m r ≡ Ok t
+    → after_inputs k f s (plains trees) ≡ after_condition m f s (plain_term t) (plains rest)
+require-next k m f s trees rest tree r t e are is judged held =
+    staged k m f s trees rest tree false e are is
+    ∙ passed plain_term r (require_form f s (plain tree)) m t (λ condition. after_condition m f s condition (plains rest)) judged held
 
 -- where the next form begins as a definition does
 abbrev picked : Bool → Plain → Plains → Option (Plain × Plains)
@@ -140,28 +136,28 @@ next-counts (u ∷ us) rest t e =
     ap suc (sym (plains_length us) ∙ ap forest_len r.2 ∙ plains_length rest)
 
 -- what the form that begins as a definition does leads to
-abbrev step : ℕ → List PlainDef → Plain → Plains → Bool → Loaded PlainProgram
-step k defs t ts b =
+abbrev step : ℕ → Format → List PlainDef → Plain → Plains → Bool → Loaded PlainProgram
+step k f defs t ts b =
     if b
-    then (at (suc k) (def_form defs t) >>= λ d. after_definitions (suc k) (defs ++ d ∷ []) ts)
-    else after_inputs k (defined defs) (more t ts)
+    then (at (suc k) (def_form f defs t) >>= λ d. after_definitions (suc k) f (defs ++ d ∷ []) ts)
+    else after_inputs k f (defined defs) (more t ts)
 
-def_staged : (k : ℕ) (defs : List PlainDef) (ts us : Plains) (t : Plain) → next_definition ts ≡ Some (t, us)
-    → after_definitions k defs ts ≡ (at (suc k) (def_form defs t) >>= λ d. after_definitions (suc k) (defs ++ d ∷ []) us)
-def_staged k defs none us t e = cc
-def_staged k defs (more u vs) us t e =
+def_staged : (k : ℕ) (f : Format) (defs : List PlainDef) (ts us : Plains) (t : Plain) → next_definition ts ≡ Some (t, us)
+    → after_definitions k f defs ts ≡ (at (suc k) (def_form f defs t) >>= λ d. after_definitions (suc k) f (defs ++ d ∷ []) us)
+def_staged k f defs none us t e = cc
+def_staged k f defs (more u vs) us t e =
     let r = split (is_def u) u t vs us e in
-    ap (λ b. step k defs u vs b) r.0 ∙ ap (λ v. step k defs v vs true) r.1 ∙ ap (λ ws. step k defs t ws true) r.2
+    ap (λ b. step k f defs u vs b) r.0 ∙ ap (λ v. step k f defs v vs true) r.1 ∙ ap (λ ws. step k f defs t ws true) r.2
 
-pub def-next : (k m : ℕ) (defs grown : List PlainDef) (trees rest : Plains) (tree : Tree) (r : Result Def LoadCode) (d : Def)
-    → suc k ≡ m → Some (plain tree, rest) ≡ next_definition trees → Judges plain_def r (def_form defs (plain tree)) → numbered m r ≡ Ok d
+pub def-next : (k m : ℕ) (f : Format) (defs grown : List PlainDef) (trees rest : Plains) (tree : Tree) (r : Result Def LoadCode) (d : Def)
+    → suc k ≡ m → Some (plain tree, rest) ≡ next_definition trees → Judges plain_def r (def_form f defs (plain tree)) → numbered m r ≡ Ok d
     → grown ≡ defs ++ plain_def d ∷ []
-    → after_definitions k defs trees ≡ after_definitions m grown rest
-def-next k m defs grown trees rest tree r d e are judged held is =
-    def_staged k defs trees rest (plain tree) (sym are)
-    ∙ ap (λ j. at j (def_form defs (plain tree)) >>= λ x. after_definitions j (defs ++ x ∷ []) rest) e
-    ∙ passed plain_def r (def_form defs (plain tree)) m d (λ x. after_definitions m (defs ++ x ∷ []) rest) judged held
-    ∙ ap (λ ds. after_definitions m ds rest) (sym is)
+    → after_definitions k f defs trees ≡ after_definitions m f grown rest
+def-next k m f defs grown trees rest tree r d e are judged held is =
+    def_staged k f defs trees rest (plain tree) (sym are)
+    ∙ ap (λ j. at j (def_form f defs (plain tree)) >>= λ x. after_definitions j f (defs ++ x ∷ []) rest) e
+    ∙ passed plain_def r (def_form f defs (plain tree)) m d (λ x. after_definitions m f (defs ++ x ∷ []) rest) judged held
+    ∙ ap (λ ds. after_definitions m f ds rest) (sym is)
 
 -- a refusal of a form is one of the file
 refusing : {Y B : Type 0} (m : ℕ) (c : LoadCode) (there : Result Y LoadCode) (f : Y → Loaded B) → CodeFails c there → Fails (fault_at m c) (fault_at m c).code (at m there >>= f)
@@ -184,14 +180,14 @@ pub handed-on : (r : Result Program LoadFault) (fault : LoadFault) (whole : Load
 handed-on (Ok p) fault whole h f = absurd h
 handed-on (Err e) fault whole h f = subst (λ (z : LoadFault). Fails z z.code whole) (sym h) f
 
-pub def-refused : (k m : ℕ) (defs : List PlainDef) (trees rest : Plains) (tree : Tree) (r : Result Def LoadCode) (fault : LoadFault) (whole : Loaded PlainProgram)
-    → suc k ≡ m → Some (plain tree, rest) ≡ next_definition trees → Judges plain_def r (def_form defs (plain tree)) → numbered m r ≡ Err fault
-    → after_definitions k defs trees ≡ whole → Fails fault fault.code whole
-def-refused k m defs trees rest tree r fault whole e are judged held told =
-    let is = sym (def_staged k defs trees rest (plain tree) (sym are) ∙ ap (λ j. at j (def_form defs (plain tree)) >>= λ x. after_definitions j (defs ++ x ∷ []) rest) e) ∙ told in
-    subst (λ o. Fails fault fault.code o) is (judged_refused plain_def m r (def_form defs (plain tree)) (λ x. after_definitions m (defs ++ x ∷ []) rest) fault judged held)
+pub def-refused : (k m : ℕ) (f : Format) (defs : List PlainDef) (trees rest : Plains) (tree : Tree) (r : Result Def LoadCode) (fault : LoadFault) (whole : Loaded PlainProgram)
+    → suc k ≡ m → Some (plain tree, rest) ≡ next_definition trees → Judges plain_def r (def_form f defs (plain tree)) → numbered m r ≡ Err fault
+    → after_definitions k f defs trees ≡ whole → Fails fault fault.code whole
+def-refused k m f defs trees rest tree r fault whole e are judged held told =
+    let is = sym (def_staged k f defs trees rest (plain tree) (sym are) ∙ ap (λ j. at j (def_form f defs (plain tree)) >>= λ x. after_definitions j f (defs ++ x ∷ []) rest) e) ∙ told in
+    subst (λ o. Fails fault fault.code o) is (judged_refused plain_def m r (def_form f defs (plain tree)) (λ x. after_definitions m f (defs ++ x ∷ []) rest) fault judged held)
 
 -- where it does not, the inputs come
-pub def-last : (k : ℕ) (defs : List PlainDef) (ts : Plains) → None ≡ next_definition ts → after_definitions k defs ts ≡ after_inputs k (defined defs) ts
-def-last k defs none e = refl
-def-last k defs (more t ts) e = ap (λ b. step k defs t ts b) (stopped (is_def t) t ts (sym e))
+pub def-last : (k : ℕ) (f : Format) (defs : List PlainDef) (ts : Plains) → None ≡ next_definition ts → after_definitions k f defs ts ≡ after_inputs k f (defined defs) ts
+def-last k f defs none e = refl
+def-last k f defs (more t ts) e = ap (λ b. step k f defs t ts b) (stopped (is_def t) t ts (sym e))

@@ -9,7 +9,8 @@ use Rattle.kid_term.specs.PlainTerm.{PlainTerm}
 use Rattle.kid_codec.specs.Name.{is_name}
 use Rattle.kid_codec.specs.Reading.{◌>>=◌}
 use Rattle.kid_codec.specs.Shape.{single, couple}
-use Rattle.kid_codec.specs.TermSpelling.{is_spelled_term, casts_are_allowed, spelled_name, spelled_term, spelled_terms}
+use Rattle.kid_codec.specs.NameSpelling.{spelled_name}
+use Rattle.kid_codec.specs.TermSpelling.{is_spelled_term, casts_are_allowed, spelled_term, spelled_terms}
 use Rattle.kid_codec.proofs.Found.{same_some, if_some, if_else, mapped, both_some, bind_some}
 use Rattle.kid_codec.proofs.Numbers.{bytes_eq-true}
 use Rattle.kid_codec.proofs.ShapeTold.{single_told, couple_told}

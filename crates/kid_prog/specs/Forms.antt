@@ -11,17 +11,23 @@ use Rattle.kid_term.specs.Names.{Names, PlainDef}
 use Rattle.kid_term.specs.Sorting.{sort_of}
 use Rattle.kid_sorting.specs.Declaring.{is_new, are_new, are_allowed, is_truth, is_sorted_definition, is_shallow, is_undefined}
 use Rattle.kid_sorting.specs.PlainSignature.{PlainSignature}
+use Rattle.kid_codec.specs.NamedValues.{term_has_tags}
 use Rattle.kid_codec.specs.Reading.{◌>>=◌}
 use Rattle.kid_codec.specs.Shape.{form, begins, single, couple, quadruple}
 use Rattle.kid_codec.specs.SortSpelling.{spelled_number, spelled_sort}
-use Rattle.kid_codec.specs.TermSpelling.{spelled_name, spelled_term}
+use Rattle.kid_codec.specs.NameSpelling.{spelled_name}
+use Rattle.kid_codec.specs.TermSpelling.{spelled_term}
+use Rattle.kid_prog.specs.Formats.{may_stand}
 use Rattle.kid_prog.specs.PlainStmt.{PlainStmts}
 use Rattle.kid_prog.specs.StmtShape.{spelled_stmts}
 use Rattle.kid_prog.specs.Rules.{Setting, obey}
+use Rattle.kid_prog.specs.Tags.{name_has_tags, names_have_tags, definition_has_tags, stmts_have_tags, search_has_tags}
 use Rattle.kid_prog.specs.declared.fault.LoadCode.{LoadCode}
 use Rattle.kid_prog.specs.declared.fault.LoadCode.TheVariants as code
+use Rattle.kid_prog.specs.declared.format.Format.{Format}
+use Rattle.kid_prog.specs.declared.format.Format.TheVariants.{One, Two}
 
--- what a form holds, if it has a shape and meets the rules of form, which go first, and those of sorts
+-- what a form holds, if it has a shape and meets the rules of form, which go first, and those of sorts; what its file's format does not take breaks a rule of form
 abbrev pub judged : {A : Type 0} → (A → Bool) → (A → Bool) → Option A → Result A LoadCode
 judged is_formed is_sorted None = Err code.Form
 judged is_formed is_sorted (Some x) = if is_formed x then (if is_sorted x then Ok x else Err code.Sort) else Err code.Form
@@ -46,13 +52,13 @@ abbrev pub names_list : Plain → Option Names
 names_list (atom w) = None
 names_list (list ts) = spelled_names ts
 
--- ---- (program 1)
+-- ---- (program 1) or (program 2)
 
-abbrev pub version_of : Option ℤ → Result (Unit {0}) LoadCode
+abbrev pub version_of : Option ℤ → Result Format LoadCode
 version_of None = Err code.Form
-version_of (Some n) = if int_eq n (pos 1) then Ok tt else Err code.Version
+version_of (Some n) = if int_eq n (pos 1) then Ok One else (if int_eq n (pos 2) then Ok Two else Err code.Version)
 
-abbrev pub version_form : Plain → Result (Unit {0}) LoadCode
+abbrev pub version_form : Plain → Result Format LoadCode
 version_form t = version_of (form (codes "program") t >>= single >>= spelled_number)
 
 -- ---- (def NAME ((NAME SORT) ..) SORT TERM)
@@ -71,8 +77,9 @@ abbrev pub is_formed_definition : List PlainDef → PlainDef → Bool
 is_formed_definition defs d = is_undefined d.name defs && are_new [] d.parameters && is_shallow defs d
 
 -- after these definitions
-abbrev pub def_form : List PlainDef → Plain → Result PlainDef LoadCode
-def_form defs t = judged (is_formed_definition defs) (is_sorted_definition defs) (form (codes "def") t >>= def_parts)
+abbrev pub def_form : Format → List PlainDef → Plain → Result PlainDef LoadCode
+def_form f defs t =
+    judged (λ d. may_stand f (definition_has_tags d) && is_formed_definition defs d) (is_sorted_definition defs) (form (codes "def") t >>= def_parts)
 
 -- ---- (input NAME SORT)
 
@@ -88,20 +95,20 @@ abbrev pub named_form : List ℕ → Plain → Option (List ℕ × PlainSort)
 named_form word t = form word t >>= named_pair
 
 -- after these definitions and inputs, of which there are at most 16
-abbrev pub input_form : PlainSignature → Plain → Result (List ℕ × PlainSort) LoadCode
-input_form s t =
-    judged (λ n. is_undeclared s n.0 && nat_lt (length s.inputs) 16) (λ n. is_allowed n.1) (named_form (codes "input") t)
+abbrev pub input_form : Format → PlainSignature → Plain → Result (List ℕ × PlainSort) LoadCode
+input_form f s t =
+    judged (λ n. may_stand f (name_has_tags n) && is_undeclared s n.0 && nat_lt (length s.inputs) 16) (λ n. is_allowed n.1) (named_form (codes "input") t)
 
 -- ---- (require TERM)
 
-abbrev pub require_form : PlainSignature → Plain → Result PlainTerm LoadCode
-require_form s t =
-    judged (λ c. true) (λ c. is_truth (sort_of s.definitions s.inputs c)) (form (codes "require") t >>= single >>= spelled_term)
+abbrev pub require_form : Format → PlainSignature → Plain → Result PlainTerm LoadCode
+require_form f s t =
+    judged (λ c. may_stand f (term_has_tags c)) (λ c. is_truth (sort_of s.definitions s.inputs c)) (form (codes "require") t >>= single >>= spelled_term)
 
 -- ---- (output NAME SORT)
 
-abbrev pub output_form : PlainSignature → Plain → Result (List ℕ × PlainSort) LoadCode
-output_form s t = judged (λ n. is_undeclared s n.0) (λ n. is_allowed n.1) (named_form (codes "output") t)
+abbrev pub output_form : Format → PlainSignature → Plain → Result (List ℕ × PlainSort) LoadCode
+output_form f s t = judged (λ n. may_stand f (name_has_tags n) && is_undeclared s n.0) (λ n. is_allowed n.1) (named_form (codes "output") t)
 
 -- ---- (first NUMBER), from 1 to 1,000,000
 
@@ -130,12 +137,12 @@ abbrev pub first_names : Plains → Option Names
 first_names none = None
 first_names (more t ts) = names_list t
 
-abbrev pub if_proper : PlainSignature → List ℕ × PlainSort → Names → Option Names
-if_proper s output ns = if are_undeclared s output ns && are_allowed ns then Some ns else None
+abbrev pub if_proper : Format → PlainSignature → List ℕ × PlainSort → Names → Option Names
+if_proper f s output ns = if may_stand f (names_have_tags ns) && are_undeclared s output ns && are_allowed ns then Some ns else None
 
-abbrev pub known_parameters : PlainSignature → List ℕ × PlainSort → Plains → Option Names
-known_parameters s output none = None
-known_parameters s output (more t ts) = form (codes "search") t >>= first_names >>= if_proper s output
+abbrev pub known_parameters : Format → PlainSignature → List ℕ × PlainSort → Plains → Option Names
+known_parameters f s output none = None
+known_parameters f s output (more t ts) = form (codes "search") t >>= first_names >>= if_proper f s output
 
 abbrev pub setting : List PlainDef → PlainSort → Option Names → Setting
 setting defs s parameters = record { definitions = defs; sort = s; parameters = parameters }
@@ -143,8 +150,9 @@ setting defs s parameters = record { definitions = defs; sort = s; parameters = 
 abbrev pub main_sorted : PlainSignature → PlainSort → Option Names → PlainStmts → Bool
 main_sorted s output_sort parameters ss = obey (setting s.definitions output_sort parameters) s.inputs ss
 
-abbrev pub main_form : PlainSignature → PlainSort → Option Names → Plain → Result PlainStmts LoadCode
-main_form s output_sort parameters t = judged (λ ss. true) (main_sorted s output_sort parameters) (form (codes "main") t >>= spelled_stmts)
+abbrev pub main_form : Format → PlainSignature → PlainSort → Option Names → Plain → Result PlainStmts LoadCode
+main_form f s output_sort parameters t =
+    judged (λ ss. may_stand f (stmts_have_tags ss)) (main_sorted s output_sort parameters) (form (codes "main") t >>= spelled_stmts)
 
 -- ---- (search ((NAME SORT) ..) STATEMENT ..)
 
@@ -156,6 +164,6 @@ abbrev pub search_sorted : PlainSignature → PlainSort → Names × PlainStmts 
 search_sorted s output_sort p = are_allowed p.0 && obey (setting s.definitions output_sort (Some p.0)) (p.0 ++ s.inputs) p.1
 
 -- after definitions, inputs and an output
-abbrev pub search_form : PlainSignature → List ℕ × PlainSort → Plain → Result (Names × PlainStmts) LoadCode
-search_form s output t =
-    judged (λ p. are_undeclared s output p.0) (search_sorted s output.1) (form (codes "search") t >>= search_parts)
+abbrev pub search_form : Format → PlainSignature → List ℕ × PlainSort → Plain → Result (Names × PlainStmts) LoadCode
+search_form f s output t =
+    judged (λ p. may_stand f (search_has_tags p) && are_undeclared s output p.0) (search_sorted s output.1) (form (codes "search") t >>= search_parts)

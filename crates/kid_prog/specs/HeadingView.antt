@@ -5,4 +5,4 @@ use Rattle.kid_prog.specs.Loading as plain
 use Rattle.kid_prog.specs.declared.loader.Heading.{Heading}
 
 abbrev pub plain_heading : Heading → plain.Heading
-plain_heading h = record { signature = h.signature; condition = plain_term h.condition; output = (h.output, plain_sort h.sort); first = h.first }
+plain_heading h = record { format = h.format; signature = h.signature; condition = plain_term h.condition; output = (h.output, plain_sort h.sort); first = h.first }

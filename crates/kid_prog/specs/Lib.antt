@@ -1,6 +1,7 @@
 pub mod Events
 pub mod FormAnswers
 pub mod FormParts
+pub mod Formats
 pub mod Formed
 pub mod Forms
 pub mod HeadingView
@@ -20,3 +21,4 @@ pub mod StmtCode
 pub mod StmtFalls
 pub mod StmtShape
 pub mod StmtView
+pub mod Tags

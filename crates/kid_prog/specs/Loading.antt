@@ -13,6 +13,7 @@ use Rattle.kid_prog.specs.Forms.{version_form, is_def, def_form, is_input, input
 use Rattle.kid_prog.specs.declared.fault.LoadCode.{LoadCode}
 use Rattle.kid_prog.specs.declared.fault.LoadCode.TheVariants as code
 use Rattle.kid_prog.specs.declared.fault.LoadFault.{LoadFault}
+use Rattle.kid_prog.specs.declared.format.Format.{Format}
 pub use Rattle.kid_term.specs.Chain.{◌>>=◌}
 
 abbrev pub Loaded : Type 0 → Type 0
@@ -28,6 +29,7 @@ at k (Err c) = refused k c
 
 -- what the forms before main hold
 pub record Heading : Type 0 where
+  pub format : Format
   pub signature : PlainSignature
   pub condition : PlainTerm
   pub output : List ℕ × PlainSort
@@ -46,7 +48,7 @@ program_with h main search = record {
   search = search.1;
 }
 
--- Of each of the following the number is that of the forms before.
+-- Of each of the following the number is that of the forms before, and the format that of the file.
 
 -- no form stands after the last
 abbrev pub at_end : ℕ → PlainProgram → Plains → Loaded PlainProgram
@@ -56,12 +58,12 @@ at_end k p (more t ts) = refused (suc k) code.Form
 abbrev pub after_main : ℕ → Heading → PlainStmts → Plains → Loaded PlainProgram
 after_main k h main none = refused (suc k) code.Form
 after_main k h main (more t ts) =
-    at (suc k) (search_form h.signature h.output t) >>= λ search. at_end (suc k) (program_with h main search) ts
+    at (suc k) (search_form h.format h.signature h.output t) >>= λ search. at_end (suc k) (program_with h main search) ts
 
 abbrev pub after_first : ℕ → Heading → Plains → Loaded PlainProgram
 after_first k h none = refused (suc k) code.Form
 after_first k h (more t ts) =
-    at (suc k) (main_form h.signature h.output.1 (known_parameters h.signature h.output ts) t)
+    at (suc k) (main_form h.format h.signature h.output.1 (known_parameters h.format h.signature h.output ts) t)
     >>= λ main. after_main (suc k) h main ts
 
 -- the heading with so many values wanted
@@ -75,23 +77,23 @@ after_output k h (more t ts) =
     then (at (suc k) (first_form t) >>= λ n. after_first (suc k) (with_first h n) ts)
     else after_first k h (more t ts)
 
-abbrev pub after_condition : ℕ → PlainSignature → PlainTerm → Plains → Loaded PlainProgram
-after_condition k s condition none = refused (suc k) code.Form
-after_condition k s condition (more t ts) =
-    at (suc k) (output_form s t)
-    >>= λ output. after_output (suc k) (record { signature = s; condition = condition; output = output; first = None }) ts
+abbrev pub after_condition : ℕ → Format → PlainSignature → PlainTerm → Plains → Loaded PlainProgram
+after_condition k f s condition none = refused (suc k) code.Form
+after_condition k f s condition (more t ts) =
+    at (suc k) (output_form f s t)
+    >>= λ output. after_output (suc k) (record { format = f; signature = s; condition = condition; output = output; first = None }) ts
 
 -- the signature with one more input
 abbrev pub with_input : PlainSignature → List ℕ × PlainSort → PlainSignature
 with_input s n = record s { inputs = s.inputs ++ n ∷ [] }
 
 -- after these definitions and inputs
-abbrev pub after_inputs : ℕ → PlainSignature → Plains → Loaded PlainProgram
-after_inputs k s none = refused (suc k) code.Form
-after_inputs k s (more t ts) =
+abbrev pub after_inputs : ℕ → Format → PlainSignature → Plains → Loaded PlainProgram
+after_inputs k f s none = refused (suc k) code.Form
+after_inputs k f s (more t ts) =
     if is_input t
-    then (at (suc k) (input_form s t) >>= λ n. after_inputs (suc k) (with_input s n) ts)
-    else (at (suc k) (require_form s t) >>= λ condition. after_condition (suc k) s condition ts)
+    then (at (suc k) (input_form f s t) >>= λ n. after_inputs (suc k) f (with_input s n) ts)
+    else (at (suc k) (require_form f s t) >>= λ condition. after_condition (suc k) f s condition ts)
 
 -- definitions and no inputs
 abbrev pub defined : List PlainDef → PlainSignature
@@ -103,17 +105,17 @@ next_definition none = None
 next_definition (more t ts) = if is_def t then Some (t, ts) else None
 
 -- after these definitions
-abbrev pub after_definitions : ℕ → List PlainDef → Plains → Loaded PlainProgram
-after_definitions k defs none = refused (suc k) code.Form
-after_definitions k defs (more t ts) =
+abbrev pub after_definitions : ℕ → Format → List PlainDef → Plains → Loaded PlainProgram
+after_definitions k f defs none = refused (suc k) code.Form
+after_definitions k f defs (more t ts) =
     if is_def t
-    then (at (suc k) (def_form defs t) >>= λ d. after_definitions (suc k) (defs ++ d ∷ []) ts)
-    else after_inputs k (defined defs) (more t ts)
+    then (at (suc k) (def_form f defs t) >>= λ d. after_definitions (suc k) f (defs ++ d ∷ []) ts)
+    else after_inputs k f (defined defs) (more t ts)
 
 -- the forms of a program
 abbrev pub program_from : Plains → Loaded PlainProgram
 program_from none = refused 1 code.Form
-program_from (more t ts) = at 1 (version_form t) >>= λ _. after_definitions 1 [] ts
+program_from (more t ts) = at 1 (version_form t) >>= λ f. after_definitions 1 f [] ts
 
 abbrev pub from_forest : Result Plains Fault → Loaded PlainProgram
 from_forest (Err fault) = refused 0 code.Read

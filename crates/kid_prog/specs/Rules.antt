@@ -8,6 +8,7 @@ use Rattle.kid_term.specs.PlainSpec.{is_wanted}
 use Rattle.kid_term.specs.Sorted.{Fault, Sorted, ◌>>=◌}
 use Rattle.kid_term.specs.Sorting.{sort_of, fit_parameters}
 use Rattle.kid_term.specs.Fitting.{AreAllowed, AreSound}
+use Rattle.kid_codec.specs.SortSpelling.{is_spelled_sort}
 use Rattle.kid_sorting.specs.Declaring.{with_name, is_truth, is_within}
 use Rattle.kid_prog.specs.PlainStmt.{assign, when, each, emit, call, PlainStmts, no_stmt, stmt}
 use Rattle.kid_prog.specs.PlainProgram.{PlainProgram}
@@ -55,12 +56,13 @@ setting_of p = record { definitions = p.definitions; sort = p.sort; parameters =
 abbrev pub search_scope : PlainProgram → Names
 search_scope p = p.parameters ++ p.inputs
 
--- the program can be run: its definitions are sound, its sorts are allowed, all values are wanted or from 1 to 1,000,000, and its terms and statements have their sorts
+-- the program can be run: its definitions are sound, its sorts are allowed, that of its values has a spelling, all values are wanted or from 1 to 1,000,000, and its terms and statements have their sorts
 pub record IsRunnable (p : PlainProgram) : Type 0 where
   pub sound : AreSound p.definitions
   pub inputs_allowed : AreAllowed p.inputs
   pub parameters_allowed : AreAllowed p.parameters
   pub sort_allowed : is_allowed p.sort ≡ true
+  pub spelled : is_spelled_sort p.sort ≡ true
   pub wanted : is_wanted p.first ≡ true
   pub condition : sort_of p.definitions p.inputs p.condition ≡ Ok bools
   pub main : obey (setting_of p) p.inputs p.main ≡ true

@@ -10,6 +10,9 @@ pub use Rattle.kid_codec.specs.DeclaredSpelling.{named_spelling, names_spelling,
 use Rattle.kid_codec.specs.TermSpelling.{term_spelling, term_spellings, is_spelled_term, are_spelled_terms}
 use Rattle.kid_prog.specs.PlainStmt.{PlainStmt, assign, when, each, emit, call, PlainStmts, no_stmt, stmt}
 use Rattle.kid_prog.specs.PlainProgram.{PlainProgram}
+use Rattle.kid_prog.specs.Formats.{format_number, format_for}
+use Rattle.kid_prog.specs.Tags.{program_has_tags}
+use Rattle.kid_prog.specs.declared.format.Format.{Format}
 
 abbrev mutual
   pub stmt_spelling : PlainStmt → Plain
@@ -44,10 +47,16 @@ last_forms p =
     (more (headed (codes "output") (named_spelling (p.output, p.sort)))
     (first_before p.first (main_forms p)))
 
--- the forms of a program in their order
+abbrev pub format_spelling : Format → Plain
+format_spelling f = headed (codes "program") (one (number_tree (pos (format_number f))))
+
+-- the forms of a program in their order, in a file of the format
+abbrev pub spelling_in : Format → PlainProgram → Plains
+spelling_in f p = more (format_spelling f) (definitions_before p.definitions (inputs_before p.inputs (last_forms p)))
+
+-- in the first format in which it may stand
 abbrev pub program_spelling : PlainProgram → Plains
-program_spelling p =
-    more (headed (codes "program") (one (number_tree (pos 1)))) (definitions_before p.definitions (inputs_before p.inputs (last_forms p)))
+program_spelling p = spelling_in (format_for (program_has_tags p)) p
 
 -- ---- the programs that have a spelling
 

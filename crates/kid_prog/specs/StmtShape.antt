@@ -5,7 +5,8 @@ use Rattle.kid_sexp.specs.Plain.{Plain, Plains, atom, list, none, more}
 use Rattle.kid_value.specs.SortOrder.{both}
 use Rattle.kid_codec.specs.Reading.{◌>>=◌}
 use Rattle.kid_codec.specs.Shape.{single, couple}
-use Rattle.kid_codec.specs.TermSpelling.{spelled_name, spelled_term, spelled_terms}
+use Rattle.kid_codec.specs.NameSpelling.{spelled_name}
+use Rattle.kid_codec.specs.TermSpelling.{spelled_term, spelled_terms}
 use Rattle.kid_prog.specs.PlainStmt.{PlainStmt, assign, when, each, emit, call, PlainStmts, no_stmt, stmt}
 
 -- what stands behind the words let, emit and call

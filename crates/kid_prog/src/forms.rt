@@ -1,5 +1,5 @@
-//! The forms of a program file, one function for each. Each answers `Form` where the form has another shape or breaks a rule of
-//! form, `Sort` where it has a wrong sort, and `Memory` where memory is wanting.
+//! The forms of a program file, one function for each. Each answers `Form` where the form has another shape, breaks a rule of form,
+//! or holds an enum sort or a tag that the file's format does not take, `Sort` where it has a wrong sort, and `Memory` where memory is wanting.
 ghost use Rattle.std.specs.Prelude.{◌≡◌, IfOk, map, option_map, codes};
 ghost use Rattle.kid_sexp.specs.Tree.{plain, plains};
 ghost use Rattle.kid_value.specs.NameView.{plain_name};
@@ -17,12 +17,14 @@ ghost use Rattle.kid_prog.specs.FormParts.{behind, alone};
 ghost use Rattle.kid_prog.specs.Forms.{version_of, version_form, is_def, def_parts, def_form, is_input, is_undeclared, named_form, input_form, require_form, output_form, is_first, counted, first_form, are_undefined, are_undeclared, first_names, if_proper, known_parameters, main_sorted, main_form, search_parts, search_sorted, search_form};
 
 use crate::fault::LoadCode;
+use crate::format::Format;
 use crate::known::Known;
 use crate::rules::{Setting, obeys};
 use crate::shape::{def_parts, named_pair, names_list, spelled_stmts};
 use crate::statement::Stmts;
+use crate::tags::{definition_has_tags, names_have_tags, search_has_tags, statements_have_tags};
 use kid_codec::shape::{form, single};
-use kid_codec::{CodecFault, number_of, spelled_term};
+use kid_codec::{CodecFault, number_of, sort_has_tags, spelled_term, term_has_tags};
 use kid_sexp::Tree;
 use kid_sorting::Signature;
 use kid_sorting::judge::{is_sorted_definition, is_truth, is_undefined};
@@ -54,19 +56,20 @@ fn spelled_number(tree: &Tree) -> Option<i64>
     }
 }
 
-fn version_of(number: Option<i64>) -> Result<(), LoadCode>
-    ensures { Judges (λ u. u) result (version_of number) }
+fn version_of(number: Option<i64>) -> Result<Format, LoadCode>
+    ensures { Judges (λ f. f) result (version_of number) }
 {
     match number {
-        Some(1) => Ok(()),
+        Some(1) => Ok(Format::One),
+        Some(2) => Ok(Format::Two),
         Some(_) => Err(LoadCode::Version),
         None => Err(LoadCode::Form),
     }
 }
 
-/// `(program 1)`, or `Version` where another number stands there.
-pub fn version_form(tree: &Tree) -> Result<(), LoadCode>
-    ensures { Judges (λ u. u) result (version_form (plain tree.now)) }
+/// `(program 1)` or `(program 2)`, or `Version` where another number stands there.
+pub fn version_form(tree: &Tree) -> Result<Format, LoadCode>
+    ensures { Judges (λ f. f) result (version_form (plain tree.now)) }
 {
     match single_form(b"program", tree) {
         Some(number) => version_of(spelled_number(number)),
@@ -92,11 +95,11 @@ fn definition_parts(alloc: Global, tree: &Tree) -> Result<Def, CodecFault>
 
 /// `(def NAME ((NAME SORT) ..) SORT TERM)` after other definitions: a new name, parameters that differ from one another, calls that
 /// do not go deeper than 16, allowed sorts, and a body within the sort over the parameters alone and the definitions before.
-pub fn def_form(alloc: Global, known: &Known, tree: &Tree) -> Result<Def, LoadCode>
-    ensures { Judges plain_def result (def_form known.now (plain tree.now)) }
+pub fn def_form(alloc: Global, format: Format, known: &Known, tree: &Tree) -> Result<Def, LoadCode>
+    ensures { Judges plain_def result (def_form format known.now (plain tree.now)) }
 {
     let definition = definition_parts(alloc, tree)?;
-    if !known.takes(alloc, &definition) {
+    if !format.takes(definition_has_tags(&definition)) || !known.takes(alloc, &definition) {
         return Err(LoadCode::Form);
     }
     if !is_sorted_definition(alloc, known.definitions(), &definition)? {
@@ -131,12 +134,16 @@ pub fn is_input(tree: &Tree) -> bool
 /// `(input NAME SORT)` after definitions and other inputs: a new name and an allowed sort. There are at most 16 inputs.
 pub fn input_form(
     alloc: Global,
+    format: Format,
     signature: &Signature,
     tree: &Tree,
 ) -> Result<(Text, Sort), LoadCode>
-    ensures { Judges plain_name result (input_form signature.now (plain tree.now)) }
+    ensures { Judges plain_name result (input_form format signature.now (plain tree.now)) }
 {
     let (name, sort) = named_form(alloc, b"input", tree)?;
+    if !format.takes(sort_has_tags(&sort)) {
+        return Err(LoadCode::Form);
+    }
     if !is_undeclared(signature, &name) || signature.inputs().len() >= MAX_INPUTS {
         return Err(LoadCode::Form);
     }
@@ -156,10 +163,18 @@ fn term_form(alloc: Global, word: &[u8], tree: &Tree) -> Result<Term, CodecFault
 }
 
 /// `(require TERM)`, which is a truth value over the inputs.
-pub fn require_form(alloc: Global, signature: &Signature, tree: &Tree) -> Result<Term, LoadCode>
-    ensures { Judges plain_term result (require_form signature.now (plain tree.now)) }
+pub fn require_form(
+    alloc: Global,
+    format: Format,
+    signature: &Signature,
+    tree: &Tree,
+) -> Result<Term, LoadCode>
+    ensures { Judges plain_term result (require_form format signature.now (plain tree.now)) }
 {
     let term = term_form(alloc, b"require", tree)?;
+    if !format.takes(term_has_tags(&term)) {
+        return Err(LoadCode::Form);
+    }
     if !is_truth(alloc, signature.definitions(), signature.inputs(), &term)? {
         return Err(LoadCode::Sort);
     }
@@ -169,13 +184,14 @@ pub fn require_form(alloc: Global, signature: &Signature, tree: &Tree) -> Result
 /// `(output NAME SORT)`: a name that no definition and no input has, and an allowed sort.
 pub fn output_form(
     alloc: Global,
+    format: Format,
     signature: &Signature,
     tree: &Tree,
 ) -> Result<(Text, Sort), LoadCode>
-    ensures { Judges plain_name result (output_form signature.now (plain tree.now)) }
+    ensures { Judges plain_name result (output_form format signature.now (plain tree.now)) }
 {
     let (name, sort) = named_form(alloc, b"output", tree)?;
-    if !is_undeclared(signature, &name) {
+    if !format.takes(sort_has_tags(&sort)) || !is_undeclared(signature, &name) {
         return Err(LoadCode::Form);
     }
     if !sort_ok(&sort) {
@@ -260,14 +276,18 @@ fn search_names(alloc: Global, tree: &Tree) -> Result<Names, CodecFault>
 
 fn if_proper(
     alloc: Global,
+    format: Format,
     signature: &Signature,
     output: &Text,
     sort: &Sort,
     names: Names,
 ) -> Result<Option<Names>, Memory>
-    ensures { IfOk result (λ o. o ≡ if_proper signature.now (output.now, plain_sort sort.now) names) }
+    ensures { IfOk result (λ o. o ≡ if_proper format signature.now (output.now, plain_sort sort.now) names) }
 {
-    if are_undeclared(alloc, signature, output, sort, &names)? && are_allowed(&names) {
+    if format.takes(names_have_tags(names.items()))
+        && are_undeclared(alloc, signature, output, sort, &names)?
+        && are_allowed(&names)
+    {
         Ok(Some(names))
     } else {
         Ok(None)
@@ -281,18 +301,19 @@ fn if_proper(
 /// Fails where memory is wanting.
 pub fn known_parameters(
     alloc: Global,
+    format: Format,
     signature: &Signature,
     output: &Text,
     sort: &Sort,
     trees: &[Tree],
 ) -> Result<Option<Names>, Memory>
-    ensures { IfOk result (λ o. o ≡ known_parameters signature.now (output.now, plain_sort sort.now) (plains trees.now)) }
+    ensures { IfOk result (λ o. o ≡ known_parameters format signature.now (output.now, plain_sort sort.now) (plains trees.now)) }
 {
     let Some(search) = trees.first() else {
         return Ok(None);
     };
     match search_names(alloc, search) {
-        Ok(names) => if_proper(alloc, signature, output, sort, names),
+        Ok(names) => if_proper(alloc, format, signature, output, sort, names),
         Err(CodecFault::Memory) => Err(Memory),
         Err(_) => Ok(None),
     }
@@ -330,14 +351,18 @@ fn main_sorted(
 /// parameters where they are known.
 pub fn main_form(
     alloc: Global,
+    format: Format,
     signature: &Signature,
     sort: &Sort,
     parameters: Option<&Names>,
     tree: &Tree,
 ) -> Result<Stmts, LoadCode>
-    ensures { Judges (λ ss. stmt_row ss) result (main_form signature.now (plain_sort sort.now) (option_map (λ ps. ps.now) parameters.entry) (plain tree.now)) }
+    ensures { Judges (λ ss. stmt_row ss) result (main_form format signature.now (plain_sort sort.now) (option_map (λ ps. ps.now) parameters.entry) (plain tree.now)) }
 {
     let statements = stmts_form(alloc, b"main", tree)?;
+    if !format.takes(statements_have_tags(statements.items())) {
+        return Err(LoadCode::Form);
+    }
     if !main_sorted(alloc, signature, sort, parameters, &statements)? {
         return Err(LoadCode::Sort);
     }
@@ -390,14 +415,18 @@ fn search_sorted(
 /// have allowed sorts, and statements that meet the rules over them and the inputs. A call fits these parameters.
 pub fn search_form(
     alloc: Global,
+    format: Format,
     signature: &Signature,
     output: &Text,
     sort: &Sort,
     tree: &Tree,
 ) -> Result<(Names, Stmts), LoadCode>
-    ensures { Judges (λ p. (p.0, stmt_row p.1)) result (search_form signature.now (output.now, plain_sort sort.now) (plain tree.now)) }
+    ensures { Judges (λ p. (p.0, stmt_row p.1)) result (search_form format signature.now (output.now, plain_sort sort.now) (plain tree.now)) }
 {
     let (parameters, statements) = parts_form(alloc, tree)?;
+    if !format.takes(search_has_tags(parameters.items(), statements.items())) {
+        return Err(LoadCode::Form);
+    }
     if !are_undeclared(alloc, signature, output, sort, &parameters)? {
         return Err(LoadCode::Form);
     }

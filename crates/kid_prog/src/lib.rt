@@ -3,6 +3,7 @@
 
 mod fault;
 mod forest;
+mod format;
 mod forms;
 mod known;
 pub mod law;
@@ -12,6 +13,7 @@ mod program;
 mod rules;
 mod shape;
 mod statement;
+mod tags;
 
 pub use fault::{LoadCode, LoadFault};
 pub use loader::load;

@@ -13,6 +13,7 @@ ghost use Rattle.kid_prog.specs.Laws.{IsLoaded};
 ghost use Rattle.kid_prog.specs.Loading.{Loads, program_with, at_end, after_main, after_first, with_first, after_output, after_condition, after_inputs, next_definition, after_definitions, program_from, loading};
 
 use crate::fault::{LoadCode, LoadFault};
+use crate::format::Format;
 use crate::forms::{
     def_form, first_form, input_form, is_def, is_first, is_input, known_parameters, main_form,
     output_form, require_form, search_form, version_form,
@@ -32,6 +33,7 @@ const MAX_BYTES: usize = 4_194_304;
 /// What the forms before main hold.
 #[derive(Drop)]
 struct Heading {
+    format: Format,
     signature: Signature,
     condition: Term,
     output: Text,
@@ -67,6 +69,7 @@ fn program_with(heading: Heading, main: Stmts, parameters: Names, search: Stmts)
         output,
         sort,
         first,
+        ..
     } = heading;
     Program {
         signature,
@@ -108,6 +111,7 @@ fn after_main(
     };
     let found = search_form(
         alloc,
+        heading.format,
         &heading.signature,
         &heading.output,
         &heading.sort,
@@ -125,11 +129,26 @@ fn main_before(
     tree: &Tree,
     rest: &[Tree],
 ) -> Result<Stmts, LoadCode>
-    ensures { Judges (λ ss. stmt_row ss) result (let h = plain_heading heading.now in main_of_tree h.signature h.output.1 (parameters_known h.signature h.output (plains rest.now)) (plain tree.now)) }
+    ensures { Judges (λ ss. stmt_row ss) result (let h = plain_heading heading.now in main_of_tree h.format h.signature h.output.1 (parameters_known h.format h.signature h.output (plains rest.now)) (plain tree.now)) }
 {
+    let format = heading.format;
     let signature = &heading.signature;
-    let parameters = known_parameters(alloc, signature, &heading.output, &heading.sort, rest)?;
-    main_form(alloc, signature, &heading.sort, parameters.as_ref(), tree)
+    let parameters = known_parameters(
+        alloc,
+        format,
+        signature,
+        &heading.output,
+        &heading.sort,
+        rest,
+    )?;
+    main_form(
+        alloc,
+        format,
+        signature,
+        &heading.sort,
+        parameters.as_ref(),
+        tree,
+    )
 }
 
 fn after_first(
@@ -154,6 +173,7 @@ fn with_first(heading: Heading, count: u32) -> Heading
     ensures { plain_heading result ≡ with_first (plain_heading heading) count }
 {
     let Heading {
+        format,
         signature,
         condition,
         output,
@@ -161,6 +181,7 @@ fn with_first(heading: Heading, count: u32) -> Heading
         ..
     } = heading;
     Heading {
+        format,
         signature,
         condition,
         output,
@@ -193,19 +214,21 @@ fn after_output(
 fn after_condition(
     alloc: Global,
     before: u32,
+    format: Format,
     signature: Signature,
     condition: Term,
     trees: &[Tree],
 ) -> Result<Program, LoadFault>
     requires { before + length trees.now + 1 < 2 ^ 32 }
-    ensures { Loads plain_program result (after_condition before signature (plain_term condition) (plains trees.now)) }
+    ensures { Loads plain_program result (after_condition before format signature (plain_term condition) (plains trees.now)) }
 {
     let number = before + 1;
     let Some((tree, rest)) = trees.split_first() else {
         return Err(fault_at(number, LoadCode::Form));
     };
-    let (output, sort) = at(number, output_form(alloc, &signature, tree))?;
+    let (output, sort) = at(number, output_form(alloc, format, &signature, tree))?;
     let heading = Heading {
+        format,
         signature,
         condition,
         output,
@@ -218,24 +241,25 @@ fn after_condition(
 fn after_inputs(
     alloc: Global,
     before: u32,
+    format: Format,
     signature: Signature,
     trees: &[Tree],
 ) -> Result<Program, LoadFault>
     requires { before + length trees.now + 1 < 2 ^ 32 }
-    ensures { Loads plain_program result (after_inputs before signature (plains trees.now)) }
+    ensures { Loads plain_program result (after_inputs before format signature (plains trees.now)) }
 {
     let number = before + 1;
     let Some((tree, rest)) = trees.split_first() else {
         return Err(fault_at(number, LoadCode::Form));
     };
     if is_input(tree) {
-        let (name, sort) = at(number, input_form(alloc, &signature, tree))?;
+        let (name, sort) = at(number, input_form(alloc, format, &signature, tree))?;
         let mut signature = signature;
         signature.add_input(name, sort)?;
-        after_inputs(alloc, number, signature, rest)
+        after_inputs(alloc, number, format, signature, rest)
     } else {
-        let condition = at(number, require_form(alloc, &signature, tree))?;
-        after_condition(alloc, number, signature, condition, rest)
+        let condition = at(number, require_form(alloc, format, &signature, tree))?;
+        after_condition(alloc, number, format, signature, condition, rest)
     }
 }
 
@@ -251,20 +275,25 @@ fn next_definition(trees: &[Tree]) -> Option<(&Tree, &[Tree])>
     }
 }
 
-fn after_definitions(alloc: Global, before: u32, trees: &[Tree]) -> Result<Program, LoadFault>
+fn after_definitions(
+    alloc: Global,
+    before: u32,
+    format: Format,
+    trees: &[Tree],
+) -> Result<Program, LoadFault>
     requires { before + length trees.now + 1 < 2 ^ 32 }
-    ensures { Loads plain_program result (after_definitions before [] (plains trees.now)) }
+    ensures { Loads plain_program result (after_definitions before format [] (plains trees.now)) }
 {
     let mut known = Known::new(alloc);
     let mut number = before;
     let mut rest = trees;
     while let Some((tree, others)) = next_definition(rest) {
         number += 1;
-        let definition = at(number, def_form(alloc, &known, tree))?;
+        let definition = at(number, def_form(alloc, format, &known, tree))?;
         known = known.with(alloc, definition)?;
         rest = others;
     }
-    after_inputs(alloc, number, known.signature(), rest)
+    after_inputs(alloc, number, format, known.signature(), rest)
 }
 
 fn program_from(alloc: Global, trees: &[Tree]) -> Result<Program, LoadFault>
@@ -274,8 +303,8 @@ fn program_from(alloc: Global, trees: &[Tree]) -> Result<Program, LoadFault>
     let Some((tree, rest)) = trees.split_first() else {
         return Err(fault_at(1, LoadCode::Form));
     };
-    at(1, version_form(tree))?;
-    after_definitions(alloc, 1, rest)
+    let format = at(1, version_form(tree))?;
+    after_definitions(alloc, 1, format, rest)
 }
 
 /// The program that a file spells, or why it is refused.
@@ -300,7 +329,7 @@ fn read_program(alloc: Global, bytes: &[u8]) -> Result<Program, LoadFault>
 
 /// The program that a file spells. Its forms stand in this order:
 ///
-/// - `(program 1)`
+/// - `(program 1)`, or `(program 2)`, which a file with an enum sort or a tag has
 /// - `(def NAME ((NAME SORT) ..) SORT TERM)`, any number: the term names the parameters alone, calls definitions before it alone,
 ///   and its sort lies within the declared one
 /// - `(input NAME SORT)`, up to 16 times
@@ -320,9 +349,9 @@ fn read_program(alloc: Global, bytes: &[u8]) -> Result<Program, LoadFault>
 ///
 /// - `Large`, with form 0: the file has more than 4,194,304 bytes.
 /// - `Read`, with form 0: a byte is outside the alphabet, or brackets do not fit or nest more than 250 deep.
-/// - `Version`: the first form names another number than 1.
+/// - `Version`: the first form names another number than 1 and 2.
 /// - `Form`: the form is not the one that may stand there, or has not its shape, or there is none where one is due; a further
-///   form stands after the last; a definition has the name of one before it, two parameters of one name, or calls that go deeper
+///   form stands after the last; an enum sort, allowed or not, or a tag stands in it in a file that begins with `(program 1)`; a definition has the name of one before it, two parameters of one name, or calls that go deeper
 ///   than 16; an input has the name of a definition or of an input before it, or is the 17th; the output has the name of a
 ///   definition or an input; a parameter of `search` has the name of a definition, of an input, of the output or of a parameter
 ///   before it.

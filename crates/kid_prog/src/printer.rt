@@ -1,25 +1,29 @@
-ghost use Rattle.std.specs.Prelude.{◌≡◌, true, IfOk, codes, pos};
+ghost use Rattle.std.specs.Prelude.{◌≡◌, true, IfOk, codes};
 ghost use Rattle.kid_sexp.specs.Plain.{join, list, more, none, one};
 ghost use Rattle.kid_sexp.specs.Tree.{plain as plain_tree};
-ghost use Rattle.kid_codec.specs.SortSpelling.{number_tree, headed};
+ghost use Rattle.kid_codec.specs.SortSpelling.{headed};
 ghost use Rattle.kid_codec.specs.TermSpelling.{term_spelling};
 ghost use Rattle.kid_prog.specs.ProgramView.{plain_program};
-ghost use Rattle.kid_prog.specs.Spelling.{first_before, named_spelling, names_spelling, stmt_spellings, definitions_before, inputs_before, program_spelling, is_spelled_program};
+ghost use Rattle.kid_prog.specs.Formats.{format_for};
+ghost use Rattle.kid_prog.specs.Tags.{program_has_tags};
+ghost use Rattle.kid_prog.specs.Spelling.{format_spelling, first_before, named_spelling, names_spelling, stmt_spellings, definitions_before, inputs_before, program_spelling, is_spelled_program};
 ghost use Rattle.kid_prog.specs.ProgramText.{program_text};
 
 use crate::forest::{
     begun, names_tree, number_form, with_definitions, with_inputs, with_name, with_statements,
 };
+use crate::format::Format;
 use crate::program::Program;
+use crate::tags::program_has_tags;
 use kid_codec::term_tree;
 use kid_sexp::{Forest, PrintFault, Tree, print};
 use kid_value::Memory;
 use std::alloc::Global;
 
-fn version_tree(alloc: Global) -> Result<Tree, Memory>
-    ensures { IfOk result (λ t. plain_tree t ≡ headed (codes "program") (one (number_tree (pos 1)))) }
+fn format_tree(alloc: Global, format: Format) -> Result<Tree, Memory>
+    ensures { IfOk result (λ t. plain_tree t ≡ format_spelling format) }
 {
-    number_form(alloc, b"program", 1)
+    number_form(alloc, b"program", format.number())
 }
 
 fn condition_tree(alloc: Global, program: &Program) -> Result<Tree, Memory>
@@ -40,13 +44,17 @@ fn output_tree(alloc: Global, program: &Program) -> Result<Tree, Memory>
 }
 
 /// These forms, and the one that says how many values are wanted, where not all are.
+#[tactic(auto, using(crate::proofs::ProgramForest::puts))]
 fn with_first(alloc: Global, mut forms: Forest, first: Option<u32>) -> Result<Forest, Memory>
     ensures { IfOk result (λ f. f ≡ join forms (first_before first none)) }
 {
-    if let Some(count) = first {
-        forms.push(number_form(alloc, b"first", count)?)?;
+    match first {
+        Some(count) => {
+            forms.push(number_form(alloc, b"first", count)?)?;
+            Ok(forms)
+        }
+        None => Ok(forms),
     }
-    Ok(forms)
 }
 
 fn main_tree(alloc: Global, program: &Program) -> Result<Tree, Memory>
@@ -69,10 +77,11 @@ fn search_tree(alloc: Global, program: &Program) -> Result<Tree, Memory>
 /// The forms before the condition.
 fn first_forms(alloc: Global, program: &Program) -> Result<Forest, Memory>
     requires { is_spelled_program (plain_program program.now) ≡ true }
-    ensures { IfOk result (λ f. f ≡ more (headed (codes "program") (one (number_tree (pos 1)))) (definitions_before (plain_program program.now).definitions (inputs_before (plain_program program.now).inputs none))) }
+    ensures { IfOk result (λ f. f ≡ more (format_spelling (format_for (program_has_tags (plain_program program.now)))) (definitions_before (plain_program program.now).definitions (inputs_before (plain_program program.now).inputs none))) }
 {
     let mut forms = Forest::new(alloc);
-    forms.push(version_tree(alloc)?)?;
+    let format = Format::with(program_has_tags(program));
+    forms.push(format_tree(alloc, format)?)?;
     let forms = with_definitions(alloc, forms, program.signature.definitions())?;
     with_inputs(alloc, forms, program.signature.inputs())
 }
@@ -91,7 +100,8 @@ fn program_forest(alloc: Global, program: &Program) -> Result<Forest, Memory>
     Ok(forms)
 }
 
-/// The text of a program: its forms in their order, each on a line of its own that byte 10 ends, with one space between
+/// The text of a program: `(program 2)` where an enum sort or a tag stands anywhere in it, else `(program 1)`, and then its other
+/// forms in their order, each on a line of its own that byte 10 ends, with one space between
 /// the members of a list. Each name in the program must be a name, each sort an allowed one that holds no `Never`, and each
 /// term one that `kid_codec::term_tree` takes. Where not all values are wanted, from 1 to 1,000,000 are. The programs that `load`
 /// gives are such.

@@ -6,4 +6,6 @@ mod definitions;
 #[cfg(test)]
 mod first;
 #[cfg(test)]
+mod formats;
+#[cfg(test)]
 mod programs;

@@ -119,7 +119,8 @@ fn refuses_what_does_not_read(rt: HostRuntime) -> Result<(), Fail> {
 #[test]
 fn refuses_versions(rt: HostRuntime) -> Result<(), Fail> {
     let cases = [
-        ("(program 2)", 1, LoadCode::Version),
+        ("(program 3)", 1, LoadCode::Version),
+        ("(program 0)", 1, LoadCode::Version),
         ("(program -1)", 1, LoadCode::Version),
         ("(program x)", 1, LoadCode::Form),
         ("(program 01)", 1, LoadCode::Form),

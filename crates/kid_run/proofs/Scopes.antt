@@ -3,7 +3,7 @@ use Rattle.std.proofs.Common.{◌≡◌, ℕ, Bool, true, false, List, [], ◌�
 use Rattle.std.specs.Prelude.{not}
 use Rattle.std.specs.List.{list_all}
 use Rattle.kid_value.specs.PlainValue.{PlainValue}
-use Rattle.kid_value.specs.PlainSort.{PlainSort, never, bools, ints, pairs, sets, seqs, maps}
+use Rattle.kid_value.specs.PlainSort.{PlainSort, never, bools, ints, pairs, sets, seqs, maps, enums}
 use Rattle.kid_value.specs.SortOrder.{is_subsort}
 use Rattle.kid_value.specs.SortLimits.{is_allowed}
 use Rattle.kid_value.proofs.SortLemmas.{and_parts, and_both}
@@ -133,6 +133,7 @@ ranges_ok names x (Ok (ints lo hi)) k p = cc
 ranges_ok names x (Ok (pairs a b)) k p = cc
 ranges_ok names x (Ok (seqs a n)) k p = cc
 ranges_ok names x (Ok (maps a b)) k p = cc
+ranges_ok names x (Ok (enums ns)) k p = cc
 ranges_ok names x (Err fault) k p = cc
 
 pub is_truth_ok : (r : Sorted) → is_truth r ≡ true → r ≡ Ok bools
@@ -143,6 +144,7 @@ is_truth_ok (Ok (ints lo hi)) p = cc
 is_truth_ok (Ok (pairs a b)) p = cc
 is_truth_ok (Ok (seqs a n)) p = cc
 is_truth_ok (Ok (maps a b)) p = cc
+is_truth_ok (Ok (enums ns)) p = cc
 is_truth_ok (Err fault) p = cc
 
 pub is_within_ok : (s : PlainSort) (r : Sorted) → is_within s r ≡ true → (a : PlainSort) × (r ≡ Ok a) × (is_subsort a s ≡ true)

@@ -1,9 +1,9 @@
 -- Events as far as values are wanted.
-use Rattle.std.proofs.Common.{◌≡◌, ℕ, ◌-◌, zero, suc, Bool, true, false, List, [], ◌∷◌, Option, Some, None, refl, arith}
+use Rattle.std.proofs.Common.{◌≡◌, ℕ, ◌-◌, zero, suc, Bool, true, false, List, [], ◌∷◌, Option, Some, None, refl, ap, arith}
 use Rattle.std.proofs.lemmas.Bool.Decides.{nat_tests}
 use Rattle.kid_value.specs.PlainValue.{PlainValue}
 use Rattle.kid_prog.specs.Events.{Event, called, found}
-use Rattle.kid_prog.specs.Running.{upto_value}
+use Rattle.kid_prog.specs.Running.{upto, upto_value}
 use Rattle.kid_run.specs.Wanted.{has_all, after_one}
 
 -- where more are wanted a call is begun
@@ -16,7 +16,7 @@ upto-called (Some (suc k)) es more = refl
 pub upto-found : (w : Option ℕ) (v : PlainValue) (es : List Event) → has_all w ≡ false → upto_value w (found v ∷ es) ≡ found v ∷ upto_value (after_one w) es
 upto-found None v es more = refl
 upto-found (Some zero) v es more = cc
-upto-found (Some (suc k)) v es more = refl
+upto-found (Some (suc k)) v es more = let e : k ≡ suc k - 1 = omega arith in ap (λ n. found v ∷ upto n es) e
 
 -- where no more are wanted, nothing is done
 pub upto-all : (w : Option ℕ) (es : List Event) → has_all w ≡ true → upto_value w es ≡ []

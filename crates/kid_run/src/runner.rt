@@ -46,7 +46,8 @@ impl<T: Drop> From<AllocFailed<T>> for RunFault {
 
 /// Runs a program on each input in order, with so much fuel for each, of which each call of the search procedure takes one.
 /// Where the program wants so many values, a run has come to its end once it has found them. Puts a line for each value that is
-/// found, and then one that closes the run: `(answers K splits C)`, or `(fuel N)` where the fuel ran out. For an input that does not meet the input condition it puts `(outside)`. Each line is one put.
+/// found, and then one that closes the run: `(answers K splits C)`, or `(fuel N)` where the fuel ran out. For an input that does
+/// not meet the input condition it puts `(outside)`. Each line is one put.
 ///
 /// # Errors
 ///

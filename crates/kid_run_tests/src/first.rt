@@ -57,7 +57,14 @@ const ENOUGH: [(&str, u32, &str, u64, u64, Outcome); 6] = [
     (ONE, 1000, "1\n(answers 1 splits 2)\n", 1, 2, Outcome::Done),
     (ONE, 2, "1\n(answers 1 splits 2)\n", 1, 2, Outcome::Done),
     (TWO, 4, "1\n3\n(answers 2 splits 4)\n", 2, 4, Outcome::Done),
-    (THREE, 5, "1\n3\n(answers 2 splits 5)\n", 2, 5, Outcome::Done),
+    (
+        THREE,
+        5,
+        "1\n3\n(answers 2 splits 5)\n",
+        2,
+        5,
+        Outcome::Done,
+    ),
     (LOOP, 0, "5\n6\n(answers 2 splits 0)\n", 2, 0, Outcome::Done),
 ];
 

@@ -1,7 +1,7 @@
 -- Calls of a definition by itself, and of those that stand later.
 use Rattle.std.specs.Prelude.{ℕ, Bool, false, ◌||◌, List, Option, Some, codes}
 use Rattle.kid_sexp.specs.Plain.{Plains, atom, none, more}
-use Rattle.kid_term.specs.PlainTerm.{PlainHead, op, call, cast, PlainTerm, var, number, truth, app, bind, PlainTerms, no_term, term}
+use Rattle.kid_term.specs.PlainTerm.{PlainHead, op, call, cast, PlainTerm, var, number, truth, tag, app, bind, PlainTerms, no_term, term}
 use Rattle.kid_term.specs.Names.{same_name}
 use Rattle.kid_codec.specs.Shape.{form}
 
@@ -30,6 +30,7 @@ abbrev mutual
   calls_ahead own later (var x) = false
   calls_ahead own later (number n) = false
   calls_ahead own later (truth b) = false
+  calls_ahead own later (tag n) = false
   calls_ahead own later (app h ts) = head_ahead own later h || any_calls_ahead own later ts
   calls_ahead own later (bind b x s t) = calls_ahead own later s || calls_ahead own later t
 

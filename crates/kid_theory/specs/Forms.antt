@@ -6,7 +6,7 @@ use Rattle.kid_value.specs.PlainSort.{PlainSort}
 use Rattle.kid_value.specs.Rows.Kinds.{natural}
 use Rattle.kid_value.specs.SortOrder.{join}
 use Rattle.kid_value.specs.SortLimits.{is_allowed}
-use Rattle.kid_term.specs.PlainTerm.{PlainTerm, var, number, truth, app, bind, PlainTerms, no_term, term}
+use Rattle.kid_term.specs.PlainTerm.{PlainTerm, var, number, truth, tag, app, bind, PlainTerms, no_term, term}
 use Rattle.kid_term.specs.Names.{Names, PlainDef}
 use Rattle.kid_term.specs.Sorted.{Sorted}
 use Rattle.kid_term.specs.Sorting.{sort_of}
@@ -70,6 +70,7 @@ abbrev mutual
   is_unbound (var x) = true
   is_unbound (number n) = true
   is_unbound (truth b) = true
+  is_unbound (tag n) = true
   is_unbound (app h ts) = are_unbound ts
   is_unbound (bind b x s t) = false
 

@@ -127,11 +127,7 @@ fn at_end(before: u32, theory: Theory, trees: &[Tree]) -> Result<Theory, TheoryF
     }
 }
 
-fn after_relation(
-    before: u32,
-    mut theory: Theory,
-    trees: &[Tree],
-) -> Result<Theory, TheoryFault>
+fn after_relation(before: u32, mut theory: Theory, trees: &[Tree]) -> Result<Theory, TheoryFault>
     requires { before + length trees.now + 1 < 2 ^ 32 }
     ensures { Reads plain_theory result (after_relation before (plain_theory theory) (plains trees.now)) }
 {

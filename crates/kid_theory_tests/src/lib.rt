@@ -13,3 +13,5 @@ mod forms;
 mod limits;
 #[cfg(test)]
 mod over;
+#[cfg(test)]
+mod tags;

@@ -116,5 +116,5 @@ range-answers t x lo hi is le =
           first-map int t.spec.first (range_search good (lo, hi))
           ∙ ap (λ zs. map int (first_of t.spec.first zs)) (visit_holds (range_leaf good) range_kids n (lo, hi))
           ∙ ap (map int) (leaves_wanted (range_leaf good) t.spec.first (visited range_kids n (lo, hi)))
-      );
+          );
     }

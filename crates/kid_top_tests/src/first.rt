@@ -6,15 +6,15 @@ use crate::worked::derives_texts;
 
 /// The integers from 1 to 10 that leave n by 4, the first alone.
 const ONE: &str =
-    "(theory rest) (input n (int 0 9)) (require (lt n 6)) (output z (int 1 10)) (ensure (eq (mod z 4) n)) (first 1)";
+    "(theory remainder) (input n (int 0 9)) (require (lt n 6)) (output z (int 1 10)) (ensure (eq (mod z 4) n)) (first 1)";
 
 /// The first two.
 const TWO: &str =
-    "(theory rest) (input n (int 0 9)) (require (lt n 6)) (output z (int 1 10)) (ensure (eq (mod z 4) n)) (first 2)";
+    "(theory remainder) (input n (int 0 9)) (require (lt n 6)) (output z (int 1 10)) (ensure (eq (mod z 4) n)) (first 2)";
 
 /// The first three.
 const THREE: &str =
-    "(theory rest) (input n (int 0 9)) (require (lt n 6)) (output z (int 1 10)) (ensure (eq (mod z 4) n)) (first 3)";
+    "(theory remainder) (input n (int 0 9)) (require (lt n 6)) (output z (int 1 10)) (ensure (eq (mod z 4) n)) (first 3)";
 
 const INPUTS: &str = "(3) (2) (5) (7)";
 
@@ -32,19 +32,22 @@ const SOLVE_FOURTEEN: [&str; 6] = ["solve", "theory", "script", "inputs", "--fue
 
 #[test]
 fn solves_for_the_first(rt: HostRuntime) {
-    let text = "3\n(answers 1 splits 7)\n2\n(answers 1 splits 6)\n(answers 0 splits 19)\n(outside)\n";
+    let text =
+        "3\n(answers 1 splits 7)\n2\n(answers 1 splits 6)\n(answers 0 splits 19)\n(outside)\n";
     ends(&rt, rt.alloc(), &SOLVE, &ONE_FILES, 0, text, "");
 }
 
 #[test]
 fn solves_for_the_first_two(rt: HostRuntime) {
-    let text = "3\n7\n(answers 2 splits 15)\n2\n6\n(answers 2 splits 14)\n(answers 0 splits 19)\n(outside)\n";
+    let text =
+        "3\n7\n(answers 2 splits 15)\n2\n6\n(answers 2 splits 14)\n(answers 0 splits 19)\n(outside)\n";
     ends(&rt, rt.alloc(), &SOLVE, &TWO_FILES, 0, text, "");
 }
 
 #[test]
 fn solves_for_more_than_there_are(rt: HostRuntime) {
-    let text = "3\n7\n(answers 2 splits 19)\n2\n6\n10\n(answers 3 splits 19)\n(answers 0 splits 19)\n(outside)\n";
+    let text =
+        "3\n7\n(answers 2 splits 19)\n2\n6\n10\n(answers 3 splits 19)\n(answers 0 splits 19)\n(outside)\n";
     ends(&rt, rt.alloc(), &SOLVE, &THREE_FILES, 0, text, "");
 }
 

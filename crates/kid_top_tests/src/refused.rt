@@ -117,7 +117,7 @@ fn programs_end(rt: &impl Abort, alloc: Global, cases: &[(&str, u8, &str)]) {
 }
 
 const PROGRAMS: [(&str, u8, &str); 5] = [
-    ("(program 2)", 7, "(program 1 version)\n"),
+    ("(program 3)", 7, "(program 1 version)\n"),
     ("(program 1", 7, "(program 0 read)\n"),
     ("(program 1)", 7, "(program 2 form)\n"),
     ("(program 1) (require 1)", 7, "(program 2 sort)\n"),

@@ -213,3 +213,37 @@ rest-ascends m (n ∷ ns) p = (and_parts (is_lt (name_cmp m n)) (names_ascend (n
 pub distinct_names : (ns : List (List ℕ)) → names_ascend ns ≡ true → Distinct ns
 distinct_names [] p = tt
 distinct_names (n ∷ ns) p = (λ h. let e : Less ≡ Equal = sym (first-before n n ns p h) ∙ name_cmp-itself n in cc, distinct_names ns (rest-ascends n ns p))
+
+-- a set of names stays one with one more name, and with those of another set
+less-lt : (m n : List ℕ) → name_cmp m n ≡ Less → is_lt (name_cmp m n) ≡ true
+less-lt m n p = ap is_lt p
+
+greater-less : (m n : List ℕ) → name_cmp m n ≡ Greater → name_cmp n m ≡ Less
+greater-less m n p = nat_list_cmp_total.antisymm n m ∙ ap ordering_reverse p
+
+and_both : (b c : Bool) → b ≡ true → c ≡ true → (b && c) ≡ true
+and_both b c p q = rw p q
+
+ascends-put_after : (n m : List ℕ) (ns : List (List ℕ)) → name_cmp n m ≡ Less → names_ascend (n ∷ ns) ≡ true → names_ascend (n ∷ put_name m ns) ≡ true
+ascends-put_after n m [] l p = and_both (is_lt (name_cmp n m)) true (less-lt n m l) refl
+ascends-put_after n m (k ∷ ks) l p =
+    let r = and_parts (is_lt (name_cmp n k)) (names_ascend (k ∷ ks)) p in by (name_cmp m k) refl r.0 r.1 (ascends-put_after k m ks)
+  where
+    by : (o : Ordering) → name_cmp m k ≡ o → is_lt (name_cmp n k) ≡ true → names_ascend (k ∷ ks) ≡ true
+        → (name_cmp k m ≡ Less → names_ascend (k ∷ ks) ≡ true → names_ascend (k ∷ put_name m ks) ≡ true) → names_ascend (n ∷ put_name_by o m k ks (put_name m ks)) ≡ true
+    by Less e f g later = and_both (is_lt (name_cmp n m)) (names_ascend (m ∷ k ∷ ks)) (less-lt n m l) (and_both (is_lt (name_cmp m k)) (names_ascend (k ∷ ks)) (less-lt m k e) g)
+    by Equal e f g later = p
+    by Greater e f g later = and_both (is_lt (name_cmp n k)) (names_ascend (k ∷ put_name m ks)) f (later (greater-less m k e) g)
+
+ascends-put : (m : List ℕ) (ns : List (List ℕ)) → names_ascend ns ≡ true → names_ascend (put_name m ns) ≡ true
+ascends-put m [] p = refl
+ascends-put m (n ∷ ns) p = by (name_cmp m n) refl
+  where
+    by : (o : Ordering) → name_cmp m n ≡ o → names_ascend (put_name_by o m n ns (put_name m ns)) ≡ true
+    by Less e = and_both (is_lt (name_cmp m n)) (names_ascend (n ∷ ns)) (less-lt m n e) p
+    by Equal e = p
+    by Greater e = ascends-put_after n m ns (greater-less m n e) p
+
+pub ascends-union : (ms ns : List (List ℕ)) → names_ascend ms ≡ true → names_ascend (names_union ms ns) ≡ true
+ascends-union ms [] p = p
+ascends-union ms (n ∷ ns) p = ascends-union (put_name n ms) ns (ascends-put n ms p)

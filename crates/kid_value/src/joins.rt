@@ -1,4 +1,5 @@
-ghost use Rattle.std.specs.Prelude.{◌≡◌, IfOk, true};
+ghost use Rattle.std.specs.Prelude.{◌≡◌, IfOk, true, List, ℕ};
+ghost use Rattle.kid_value.specs.NameSet.{names_ascend, names_union};
 ghost use Rattle.std.specs.Option.{option_map};
 ghost use Rattle.kid_value.specs.Join.{IsJoin};
 ghost use Rattle.kid_value.specs.PlainSort.{has_sort, pairs, sets, seqs, maps};
@@ -40,6 +41,7 @@ fn is_below(a: &Sort, b: &Sort) -> bool
 /// An error comes where memory is wanting.
 pub fn join(alloc: Global, a: &Sort, b: &Sort) -> Result<Option<Sort>, Memory>
     ensures value { IfOk result (λ o. option_map plain_sort o ≡ join_of (plain_sort a.now) (plain_sort b.now)) }
+    ensures ascends { (ms ns : List (List ℕ)) → names_ascend ms ≡ true → names_ascend (names_union ms ns) ≡ true }
     ensures least { IfOk result (λ o. IsJoin (plain_sort a.now) (plain_sort b.now) (option_map plain_sort o)) }
 {
     joined(alloc, a, b)

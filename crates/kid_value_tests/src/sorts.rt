@@ -35,7 +35,10 @@ fn counts_up_to_the_cap(rt: HostRuntime) -> Result<(), Fail> {
     assert_eq!(rt; count_of(&sequence_sort(alloc, Sort::Bool, 16)?), 65537);
     assert_eq!(rt; count_of(&set_sort(alloc, Sort::Never)?), 1);
     assert_eq!(rt; count_of(&byte_enum(alloc, 1, 65)?), 64);
-    assert_eq!(rt; count_of(&set_sort(alloc, byte_enum(alloc, 1, 17)?)?), 65536);
+    assert_eq!(rt;
+        count_of(&set_sort(alloc, byte_enum(alloc, 1, 17)?)?),
+        65536
+    );
     Ok(())
 }
 

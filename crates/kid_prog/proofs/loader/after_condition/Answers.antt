@@ -7,7 +7,7 @@ use Rattle.kid_prog.proofs.loader.after_condition.Goals as goal
 
 pub returns : goal.returns
 returns c =
-    let e = condition-next c.args.before (c.args.before + 1) c.args.signature (plain_term c.args.condition) c.args.trees.now c.in-Some.rest.now c.in-Some.tree.now
+    let e = condition-next c.args.before (c.args.before + 1) c.args.format c.args.signature (plain_term c.args.condition) c.args.trees.now c.in-Some.rest.now c.in-Some.tree.now
     c.output_form.result (c.in_ok-output.output, c.in_ok-output.sort)
     (omega arith) c.in-Some.ensures.cases.0 c.output_form.ensures (sym c.at.ensures ∙ c.in_ok-output.was) in
     subst (λ o. Loads plain_program c.after_output.result o) (sym e) c.after_output.ensures

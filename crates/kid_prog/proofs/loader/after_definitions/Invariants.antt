@@ -8,6 +8,6 @@ decreases-loop-tree l = length l.rest
 
 abbrev pub invariant-loop-tree : goal.invariant-loop-tree
 invariant-loop-tree l = record {
-  told : after_definitions l.number l.known (plains l.rest) ≡ after_definitions l.before [] (plains l.trees);
+  told : after_definitions l.number l.format l.known (plains l.rest) ≡ after_definitions l.before l.format [] (plains l.trees);
   counted : l.number + length l.rest ≡ l.before + length l.trees;
 }

@@ -9,13 +9,13 @@ use Rattle.kid_run.specs.Scope.{MachineCanRun}
 use Rattle.kid_run.proofs.Steps.{machine_work}
 use Rattle.kid_run.proofs.machine.advance.Given as goal
 
-abbrev pub invariant-loop-value : goal.invariant-loop-value
-invariant-loop-value l = record {
+abbrev pub invariant-loop-alloc : goal.invariant-loop-alloc
+invariant-loop-alloc l = record {
   same : (f : Procedure) (n : ℕ) → with_events l.fn.tally n (doing (calls_of (plain_program l.program).definitions) f (plain_machine l.fn.machine))
       ≡ with_events l.tally n (doing (calls_of (plain_program l.program).definitions) f (plain_machine l.machine));
   can : MachineCanRun (plain_program l.program) (plain_machine l.machine);
   splits : l.tally.splits ≡ l.fn.tally.splits;
 }
 
-abbrev pub decreases-loop-value : goal.decreases-loop-value
-decreases-loop-value l = machine_work (calls_of (plain_program l.program).definitions) (plain_machine l.machine)
+abbrev pub decreases-loop-alloc : goal.decreases-loop-alloc
+decreases-loop-alloc l = machine_work (calls_of (plain_program l.program).definitions) (plain_machine l.machine)
