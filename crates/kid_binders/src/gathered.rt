@@ -6,8 +6,8 @@ ghost use Rattle.kid_binders.specs.Shapes as shape;
 ghost use Rattle.kid_binders.specs.Outcome.{Gives, made, plain_bound, with_put};
 ghost use Rattle.kid_binders.specs.Gathered as spec;
 
-use crate::build::{bind_body, bind_of, made, two, two_of};
 use crate::bound::{Bound, RuleFault};
+use crate::build::{bind_body, bind_of, made, two, two_of};
 use crate::shape::{as_equation, as_member};
 use kid_term::substitute::is_same;
 use kid_term::{Binder, LogicOp, Op, SetOp, Term};

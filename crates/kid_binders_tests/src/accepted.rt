@@ -24,7 +24,10 @@ fn makes(rt: &impl Abort, alloc: Global, back: bool, rows: &[(u8, &str, &str, &s
     for row in rows {
         let (rule, it, args, condition, want) = *row;
         let made = ruled(alloc, rule, back, it, args);
-        assert!(rt; is_made(alloc, made, condition, want), "b{rule} at {it} {args}");
+        assert!(rt;
+            is_made(alloc, made, condition, want),
+            "b{rule} at {it} {args}"
+        );
     }
 }
 

@@ -8,9 +8,7 @@
 //!
 //! `None` is want of memory, or a text that is no term.
 use kid_binders::{Bound, RuleFault, apply};
-use kid_term::{
-    Binder, BoxedTerm, Head, Literal, LogicOp, NumberOp, Op, SetOp, Term, Terms, same,
-};
+use kid_term::{Binder, BoxedTerm, Head, Literal, LogicOp, NumberOp, Op, SetOp, Term, Terms, same};
 use kid_value::Text;
 use std::alloc::Global;
 

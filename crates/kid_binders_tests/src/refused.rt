@@ -11,13 +11,7 @@ fn is_refused(made: Option<Applied>, want: RuleFault) -> bool {
     }
 }
 
-fn refuses(
-    rt: &impl Abort,
-    alloc: Global,
-    back: bool,
-    rows: &[(u8, &str, &str)],
-    want: RuleFault,
-) {
+fn refuses(rt: &impl Abort, alloc: Global, back: bool, rows: &[(u8, &str, &str)], want: RuleFault) {
     for row in rows {
         let (rule, it, args) = *row;
         let made = ruled(alloc, rule, back, it, args);
