@@ -1,20 +1,18 @@
 -- Both sides of each rule have one value, where the values at hand are of the kinds that are asked for.
-use Rattle.std.proofs.Common.{◌≡◌, ℕ, ℤ, Bool, true, false, cond, List, [], ◌∷◌, refl, sym, ap, ◌∙◌, arith, subst, map}
+use Rattle.std.proofs.Common.{◌≡◌, ℕ, ℤ, Bool, true, false, List, ◌∷◌, refl, sym, ap, ◌∙◌, subst, map}
 use Rattle.std.specs.Prelude.{◌+ℤ◌, not, ◌&&◌, ◌||◌, filter}
 use Rattle.std.specs.List.{list_all, list_any}
-use Rattle.kid_value.specs.PlainValue.{PlainValue, int, bool, pair, set, seq, map_of, items}
+use Rattle.kid_value.specs.PlainValue.{PlainValue, int, bool, set, items}
 use Rattle.kid_value.specs.ValueSet as sets
 use Rattle.kid_value.specs.ValueSet.{value_eq, is_member, is_subset, put, set_of}
 use Rattle.kid_value.specs.Rows.Parts.{truth_of, number_of, members_of, total}
-use Rattle.kid_value.specs.Rows.Kinds.{set_from}
 use Rattle.kid_value.specs.Rows.Logic as logic
 use Rattle.kid_value.specs.Rows.Number as num
 use Rattle.kid_value.specs.Rows.Set as row
-use Rattle.kid_value.specs.PlainValue as plain
 use Rattle.kid_value.proofs.MemberLemmas.{list_all-member}
 use Rattle.kid_value.proofs.RowLemmas.{items_row}
 use Rattle.kid_value.proofs.ValueSetLaws.{is_member-filter}
-use Rattle.kid_term.specs.PlainTerm.{op, PlainTerm, var, truth, bind}
+use Rattle.kid_term.specs.PlainTerm.{PlainTerm, var, truth, bind}
 use Rattle.kid_term.specs.Names.{same_name}
 use Rattle.kid_term.specs.Eval.{Env, Calls, value_at, eval}
 use Rattle.kid_term.specs.Substitution.{mentions, replaced, captures}

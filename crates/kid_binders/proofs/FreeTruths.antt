@@ -1,24 +1,21 @@
 -- The rules that are true of terms without sorts too: b1 to b3, b8, b11 to b13, b15, b17 and b18.
-use Rattle.std.proofs.Common.{◌≡◌, ℕ, Bool, true, false, List, [], ◌∷◌, Some, Ok, Err, Result, refl, sym, ap, ◌∙◌, subst}
+use Rattle.std.proofs.Common.{◌≡◌, true, false, Ok, Err, Result, refl, sym, ap, ◌∙◌, subst}
 use Rattle.std.specs.Prelude.{pos, ◌&&◌, cond}
-use Rattle.kid_value.specs.PlainValue.{int, bool}
 use Rattle.kid_value.specs.Rows.Parts.{truth_of}
 use Rattle.kid_value.proofs.SortLemmas.{and_parts}
-use Rattle.kid_term.specs.PlainTerm.{op, PlainTerm, var, number, truth, app, bind, no_term}
+use Rattle.kid_term.specs.PlainTerm.{PlainTerm, var, number, truth, bind}
 use Rattle.kid_term.specs.Names.{same_name}
 use Rattle.kid_term.specs.Eval.{Env, Calls, eval}
 use Rattle.kid_term.specs.Substitution.{mentions, replaced, captures}
 use Rattle.kid_term.specs.Renaming.{renamed}
 use Rattle.kid_term.specs.declared.rename.RenameFault.{RenameFault}
 use Rattle.kid_term.specs.declared.rename.RenameFault.TheVariants as fault
-use Rattle.kid_term.specs.declared.operator.Op.TheVariants as operator
-use Rattle.kid_term.specs.declared.operator.SetOp.TheVariants as set_op
 use Rattle.kid_term.specs.declared.operator.Binder.TheVariants.{All, Some as AnyOf, SetOf, Image, SumOf}
 use Rattle.kid_term.proofs.EvalLemmas.{same_name-true}
 use Rattle.kid_term.proofs.RenameLemmas.{eval-of_renamed}
 use Rattle.kid_binders.specs.Shapes.{conjunction, equation, member, subset, all, some, image, is_true, is_empty, as_and, as_equation, as_member}
 use Rattle.kid_binders.specs.Meaning.{AllTrue}
-use Rattle.kid_binders.specs.Outcome.{PlainBound, Outcome, capture, made, made_if, with_put}
+use Rattle.kid_binders.specs.Outcome.{PlainBound, capture, made, made_if}
 use Rattle.kid_binders.specs.Same.{same_term}
 use Rattle.kid_binders.specs.Naming.{of_renamed, b1}
 use Rattle.kid_binders.specs.Settled.{b2, b3, b11, b15}

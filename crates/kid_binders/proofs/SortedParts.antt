@@ -2,16 +2,16 @@
 use Rattle.std.proofs.Common.{◌≡◌, ℕ, Bool, true, false, cond, List, [], ◌∷◌, Result, Ok, Err, refl, sym, ap, ◌∙◌, subst}
 use Rattle.std.specs.Prelude.{ℤ, not, ◌&&◌, ◌||◌}
 use Rattle.kid_value.specs.PlainValue.{PlainValue, int, bool, set}
-use Rattle.kid_value.specs.PlainSort.{PlainSort, never, bools, ints, sets, has_sort}
+use Rattle.kid_value.specs.PlainSort.{PlainSort, never, bools, ints, sets}
 use Rattle.kid_value.specs.ValueSet.{value_eq, is_member}
 use Rattle.kid_value.specs.Rows.Parts.{members_of}
 use Rattle.kid_value.proofs.ValueSetLaws.{value_eq-true}
-use Rattle.kid_term.specs.PlainTerm.{PlainHead, op, PlainTerm, var, number, truth, tag, app, bind, PlainTerms, no_term, term}
+use Rattle.kid_term.specs.PlainTerm.{op, PlainTerm, var, number, truth, tag, app, bind, PlainTerms, no_term, term}
 use Rattle.kid_term.specs.Names.{same_name, Names, is_named, PlainDef}
 use Rattle.kid_term.specs.Eval.{Env, Calls, eval}
 use Rattle.kid_term.specs.Substitution.{mentions, some_mentions}
 use Rattle.kid_term.specs.Small.{Checks}
-use Rattle.kid_term.specs.Sorted.{Fault, Sorted, Shadow, Unknown, ◌>>=◌, with_set}
+use Rattle.kid_term.specs.Sorted.{Fault, Shadow, ◌>>=◌, with_set}
 use Rattle.kid_term.specs.Sorting.{least_sort, least_sorts, sort_at, head_sort, op_sort, binder_sort, unshadowed, sum_sort}
 use Rattle.kid_term.specs.Written.{written}
 use Rattle.kid_term.specs.Fitting.{IsOfSort, AreAllowed, Fits}

@@ -1,20 +1,20 @@
 -- The rules that are true where the old term has a sort: b4 to b7, b9, b10, b14 and b16. Back, b10 needs a sort of the new term too.
-use Rattle.std.proofs.Common.{◌≡◌, ℕ, Bool, true, false, cond, List, [], ◌∷◌, Some, Ok, refl, sym, ap, ◌∙◌, subst}
+use Rattle.std.proofs.Common.{◌≡◌, ℕ, true, false, List, [], ◌∷◌, Ok, refl, sym, ap, ◌∙◌, subst}
 use Rattle.std.specs.Prelude.{not, ◌&&◌, ◌||◌}
 use Rattle.kid_value.specs.PlainValue.{PlainValue}
 use Rattle.kid_value.specs.PlainSort.{PlainSort, bools, sets}
 use Rattle.kid_value.specs.SortOrder.{join}
 use Rattle.kid_value.specs.SortCount.{count_of}
-use Rattle.kid_value.specs.ValueSet.{value_eq, is_member, put}
+use Rattle.kid_value.specs.ValueSet.{is_member}
 use Rattle.kid_value.specs.Rows.Parts.{members_of}
 use Rattle.kid_value.proofs.MemberLemmas.{is_member-first}
 use Rattle.kid_value.proofs.SortLemmas.{and_parts}
 use Rattle.kid_value.proofs.ValueSetLaws.{value_eq-itself, is_member-put}
-use Rattle.kid_term.specs.PlainTerm.{op, PlainTerm, var, number, truth, app, bind, no_term, term}
+use Rattle.kid_term.specs.PlainTerm.{PlainTerm, var, bind}
 use Rattle.kid_term.specs.Names.{same_name, Names, is_named, PlainDef}
 use Rattle.kid_term.specs.Eval.{Env, Calls, eval}
 use Rattle.kid_term.specs.Small.{Checks}
-use Rattle.kid_term.specs.Sorted.{Sorted, allowed, with_bool, with_set, with_join}
+use Rattle.kid_term.specs.Sorted.{allowed, with_set, with_join}
 use Rattle.kid_term.specs.Sorting.{least_sort}
 use Rattle.kid_term.specs.Fitting.{IsOfSort, AreAllowed, Fits}
 use Rattle.kid_term.specs.Substitution.{mentions, replaced, captures}
@@ -22,13 +22,13 @@ use Rattle.kid_term.specs.declared.operator.Binder.{Binder}
 use Rattle.kid_term.specs.declared.operator.Op.TheVariants as operator
 use Rattle.kid_term.specs.declared.operator.LogicOp.TheVariants as logic
 use Rattle.kid_term.specs.declared.operator.SetOp.TheVariants as set_op
-use Rattle.kid_term.specs.declared.operator.Binder.TheVariants.{All, Some as AnyOf, SetOf, Image, SumOf}
+use Rattle.kid_term.specs.declared.operator.Binder.TheVariants.{All, Some as AnyOf, SetOf, SumOf}
 use Rattle.kid_term.proofs.EvalLemmas.{same_name-true, same_name-comm, or_none}
 use Rattle.kid_term.proofs.Inversions.{ok, with_bool_ok, with_set_ok}
 use Rattle.kid_term.proofs.SortedValue.{CallsFit, BinderSorts, binder_ok}
 use Rattle.kid_binders.specs.Shapes.{one, two, negated, conjunction, disjunction, implication, sum_of, member, union, all, some, sumof, as_single, as_not, as_and, as_or, as_union, as_with}
 use Rattle.kid_binders.specs.Meaning.{is_bool, is_set}
-use Rattle.kid_binders.specs.Outcome.{PlainBound, Outcome, capture, made, made_if, with_put}
+use Rattle.kid_binders.specs.Outcome.{PlainBound, made, made_if, with_put}
 use Rattle.kid_binders.specs.Same.{same_term}
 use Rattle.kid_binders.specs.Instances.{b4, b5, b16}
 use Rattle.kid_binders.specs.Parted.{b6, both_all, b6_back, b7, both_some, b7_back}

@@ -1,5 +1,5 @@
 -- What a rule gives: conditions and a new term, or why it gives nothing.
-use Rattle.std.specs.Prelude.{◌≡◌, ℕ, Bool, cond, List, [], ◌∷◌, Option, Some, None, Result, Ok, Err}
+use Rattle.std.specs.Prelude.{◌≡◌, ℕ, cond, List, [], ◌∷◌, Option, Some, None, Result, Ok, Err}
 use Rattle.kid_term.specs.PlainTerm.{PlainTerm}
 use Rattle.kid_term.specs.TermView.{plain_term}
 use Rattle.kid_term.specs.Substitution.{replaced, captures}
