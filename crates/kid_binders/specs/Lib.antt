@@ -1,0 +1,12 @@
+pub mod Same
+pub mod Shapes
+pub mod Outcome
+pub mod Naming
+pub mod Settled
+pub mod Instances
+pub mod Parted
+pub mod Bodies
+pub mod Gathered
+pub mod Rules
+pub mod Meaning
+pub mod Laws
