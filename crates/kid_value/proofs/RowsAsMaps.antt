@@ -1,14 +1,16 @@
 -- Rows by the maps that they stand for.
-use Rattle.std.proofs.Common.{◌≡◌, ℕ, ◌+◌, ◌<◌, ◌≤◌, zero, suc, ℤ, pos, negsuc, ◌+ℤ◌, ◌-ℤ◌, ◌<ℤ◌, Bool, true, false, cond, List, [], ◌∷◌, Option, Some, None, map, length, refl, sym, ap, ◌∙◌, arith}
+use Rattle.std.proofs.Common.{◌≡◌, ℕ, ◌+◌, ◌<◌, ◌≤◌, zero, suc, ℤ, pos, negsuc, ◌+ℤ◌, ◌-ℤ◌, ◌<ℤ◌, Bool, true, false, cond, List, [], ◌∷◌, Option, Some, None, map, length, refl, sym, ap, ◌∙◌, arith, inl, inr}
 use Rattle.std.specs.List.{range_with_len}
 use Rattle.std.specs.Option.{option_and_then}
 use Rattle.std.specs.Ordering.{is_eq}
 use Rattle.std.specs.Prelude.{set, unwrap_or}
+use Rattle.std.proofs.lemmas.Bool.{cases_lt}
 use Rattle.std.proofs.lemmas.Int.{ints as int_rules}
+use Rattle.kid_value.specs.Canonical.{IsCanonical}
 use Rattle.kid_value.specs.Contents.{IsSequence, IsMap, value_at}
 use Rattle.kid_value.specs.Entries.{IsMapOf}
 use Rattle.kid_value.specs.PlainValue.{PlainValue, int, seq, map_of, row, items, entries}
-use Rattle.kid_value.specs.RowLaws.{map_of_row, RowLaws}
+use Rattle.kid_value.specs.RowLaws.{map_of_row, HasKeysBetween, RowLaws}
 use Rattle.kid_value.specs.Rows.Kinds.{natural}
 use Rattle.kid_value.specs.Rows.Map as map_rows
 use Rattle.kid_value.specs.Rows.Parts.{items_of}
@@ -17,6 +19,9 @@ use Rattle.kid_value.specs.Rows.Word.{key_at, place_above, row_item, item_value,
 use Rattle.kid_value.specs.ValueMap.{lookup}
 use Rattle.kid_value.specs.ValueOrder.{Before}
 use Rattle.kid_value.specs.ValueSet.{value_eq}
+use Rattle.kid_value.proofs.LookupLemmas.{none_some}
+use Rattle.kid_value.proofs.MapMeaning.{same_maps}
+use Rattle.kid_value.proofs.RowCanonical.{IsCanonical-rdec, IsCanonical-renc}
 use Rattle.kid_value.proofs.RowLemmas.{items_row, entries_table}
 use Rattle.kid_value.proofs.ValueSetLaws.{value_eq-true, value_eq-itself}
 
@@ -166,6 +171,39 @@ renc_above lo n (map_of m) i s l =
     ∙ ap (option_and_then item_value) (item_past (λ j. row_item (lookup (key_at lo j) (entries m))) 0 (natural n) i l)
 renc_above lo n m i s l = absurd s
 
+-- a map and its row
+one_option : (o p : Option PlainValue) → ((v : PlainValue) → o ≡ Some v → o ≡ p) → ((v : PlainValue) → p ≡ Some v → o ≡ p) → o ≡ p
+one_option None None f g = refl
+one_option (Some v) p f g = f v refl
+one_option None (Some v) f g = g v refl
+
+module _ (lo n : ℤ) (m : PlainValue) (j : IsMap m) where
+  abbrev decoded : PlainValue
+  decoded = map_of_row lo (rows.renc (int lo) (int n) m)
+
+  at_key : (k : PlainValue) (i : ℕ) → k ≡ key_at lo i → i < natural n → value_at k decoded ≡ value_at k m
+  at_key k i e l = ap (λ z. value_at z decoded) e ∙ renc_told lo n m i j l ∙ ap (λ z. value_at z m) (sym e)
+
+  was_there : IsSequence (rows.renc (int lo) (int n) m) → (k v : PlainValue) → value_at k decoded ≡ Some v → value_at k decoded ≡ value_at k m
+  was_there s k v h =
+      let found = rdec_only lo (rows.renc (int lo) (int n) m) k v s h in
+      elim (cases_lt found.0 (natural n)) [
+        | inl l ↦ at_key k found.0 found.2 l
+        | inr g ↦ absurd (none_some (value_at k decoded) v h (ap (λ z. value_at z decoded) found.2 ∙ renc_above lo n m found.0 j g))
+      ]
+
+  same_values : IsSequence (rows.renc (int lo) (int n) m) → HasKeysBetween lo n m → (k : PlainValue) → value_at k decoded ≡ value_at k m
+  same_values s f k =
+      one_option (value_at k decoded) (value_at k m) (was_there s k) (λ v h. let found = f k v h in at_key k found.0 found.2 found.1)
+
+rdec_renc : (lo n : ℤ) (m : PlainValue) → IsMap m → IsCanonical m → HasKeysBetween lo n m → map_of_row lo (rows.renc (int lo) (int n) m) ≡ m
+rdec_renc lo n (map_of m) j c f =
+    same_maps (map_of_row lo (rows.renc (int lo) (int n) (map_of m))) (map_of m) tt j
+    (IsCanonical-rdec (int lo) (rows.renc (int lo) (int n) (map_of m)) (IsCanonical-renc (int lo) (int n) (map_of m) c))
+    c
+    (same_values lo n (map_of m) j tt f)
+rdec_renc lo n m j c f = absurd j
+
 -- a row with another item at a number
 set_told : (lo : ℤ) (i : ℕ) (gs : List PlainValue) (item k : PlainValue) → i < length gs
     → value_at k (map_of_row lo (seq (row (item_set gs (place_above ((lo +ℤ pos i) -ℤ lo)) item)))) ≡ cond (value_eq k (key_at lo i)) (item_value item) (lookup k (row_entries lo gs))
@@ -191,6 +229,7 @@ laws =
       rget = rget_told;
       renc = renc_told;
       renc_above = renc_above;
+      rdec_renc = rdec_renc;
       rput = rput_told;
       rdrop = rdrop_told;
     }

@@ -43,17 +43,18 @@ pub fn map_laws()
 {}
 
 /// `wenc` gives the word that has the bits of a set's numbers, `wdec` the set of the numbers of a
-/// word's bits and no other; `win` tells whether a word has the bit of a number, `wcard` counts its
-/// bits, and `wleast` gives the number of the lowest; `wor` has the bits of either word, `wand` of
-/// both, `wnot` of the first alone.
+/// word's bits and no other; two words of the same bits are one, and a word and its set give each
+/// other back; `win` tells whether a word has the bit of a number, `wcard` counts its bits, and
+/// `wleast` gives the number of the lowest; `wor` has the bits of either word, `wand` of both,
+/// `wnot` of the first alone.
 pub fn word_laws()
     ensures { WordLaws }
 {}
 
 /// `rget` reads the map that `rdec` makes of a row, whose keys are numbers at which the row has
-/// items; the row of `renc` has at its numbers what the map has, and nothing beyond; `rput` sets the
-/// value at a number of the row, `rdrop` takes it away, and at each other key both leave the map as
-/// it was.
+/// items; the row of `renc` has at its numbers what the map has, and nothing beyond, so that it gives
+/// back a map that has no other keys; `rput` sets the value at a number of the row, `rdrop` takes it
+/// away, and at each other key both leave the map as it was.
 pub fn row_laws()
     ensures { RowLaws }
 {}
