@@ -22,6 +22,7 @@ pub mod Ranks
 pub mod RenameLemmas
 pub mod ReplaceLemmas
 pub mod RowSound
+pub mod Scopes
 pub mod SeqRanks
 pub mod SeqSound
 pub mod SetRanks
