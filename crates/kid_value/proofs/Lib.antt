@@ -30,3 +30,4 @@ pub mod StrictOrderLaws
 pub mod ValueOrderLaws
 pub mod ValueSetLaws
 pub mod WordMeaning
+pub mod WordOnes

@@ -1,22 +1,24 @@
 -- Words by their bits.
-use Rattle.std.proofs.Common.{◌≡◌, ℕ, ◌+◌, ◌<◌, ◌≤◌, zero, suc, ℤ, Bool, true, false, cond, List, ◌∷◌, map, refl, sym, ap, ◌∙◌, arith, inl, inr}
+use Rattle.std.proofs.Common.{◌≡◌, ℕ, ◌+◌, ◌<◌, ◌≤◌, zero, suc, ℤ, pos, ◌+ℤ◌, Bool, true, false, cond, List, [], ◌∷◌, map, length, refl, sym, ap, ◌∙◌, arith, inl, inr}
 use Rattle.std.specs.List.{range_with_len}
 use Rattle.std.specs.Ordering.{is_eq}
 use Rattle.std.specs.Prelude.{not, ◌||◌, ◌&&◌, filter, nat_eq}
 use Rattle.std.proofs.lemmas.Bool.{cases_lt}
+use Rattle.std.proofs.lemmas.Int.{ints as int_rules}
 use Rattle.std.proofs.lemmas.Nat.Bits.{bit_at_above}
 use Rattle.kid_value.specs.Contents.{IsSet, has}
 use Rattle.kid_value.specs.PlainValue.{PlainValue, int, set, items}
 use Rattle.kid_value.specs.Rows.Kinds.{natural}
 use Rattle.kid_value.specs.Rows.Word as rows
-use Rattle.kid_value.specs.Rows.Word.{has_bit, word_of, word_size, key_at, bits_below}
+use Rattle.kid_value.specs.Rows.Word.{has_bit, word_of, word_size, key_at, bits_below, lowest_or}
 use Rattle.kid_value.specs.ValueSet.{is_member}
-use Rattle.kid_value.specs.WordLaws.{bit_of, WordLaws}
+use Rattle.kid_value.specs.WordLaws.{bit_of, HasNoBit, HasOneMore, WordLaws}
 use Rattle.kid_value.proofs.MemberLemmas.{is_member-first}
 use Rattle.kid_value.proofs.RowCanonical.{key_before, AllAfter-bits}
 use Rattle.kid_value.proofs.RowLemmas.{items_row}
 use Rattle.kid_value.proofs.RowMeaning.{bit_at-word_of, word_of-below}
 use Rattle.kid_value.proofs.ValueSetLaws.{is_member-after, value_eq-comm}
+use Rattle.kid_value.proofs.WordOnes.{passing-none, lowest-first, numbered-only, counted-more, card-numbered, least-numbered, has_bit_at-key, has_bit_at-below}
 
 -- a word has the bits that pass
 has_bit-word_of : (p : ℕ → Bool) (n i : ℕ) → i < n → has_bit (word_of p n) i ≡ p i
@@ -61,12 +63,38 @@ module _ (lo : ℤ) (p : ℕ → Bool) (i : ℕ) where
 wdec_told : (lo k r : ℤ) (i : ℕ) → i < natural k → has (key_at lo i) (rows.wdec (int lo) (int k) (int r)) ≡ bit_of i (int r)
 wdec_told lo k r i l = ap (is_member (key_at lo i)) (items_row (map (key_at lo) (bits_below (natural k) (natural r)))) ∙ among lo (has_bit (natural r)) i 0 (natural k) (omega arith) (omega arith)
 
+wdec_only : (lo k r : ℤ) (x : PlainValue) → has x (rows.wdec (int lo) (int k) (int r)) ≡ true → (i : ℕ) × (i < natural k) × (bit_of i (int r) ≡ true) × (x ≡ key_at lo i)
+wdec_only lo k r x h =
+    let found = numbered-only (has_bit (natural r)) lo x 0 (natural k) (ap (is_member x) (sym (items_row (map (key_at lo) (bits_below (natural k) (natural r))))) ∙ h) in
+    (found.0, omega (arith, found.2), found.3, found.4)
+
+-- the bits below any size, since at the size of a word they would unroll
+none_below : (n m : ℕ) → ((i : ℕ) → i < n → has_bit m i ≡ false) → bits_below n m ≡ []
+none_below n m f = passing-none (has_bit m) 0 n (λ i l h. f i (omega arith))
+
+one_more_below : (n m k i : ℕ) → i < n → has_bit m i ≡ false → has_bit k i ≡ true → ((j : ℕ) → (j ≡ i → ⊥) → has_bit k j ≡ has_bit m j) → pos (length (bits_below n k)) ≡ pos (length (bits_below n m)) +ℤ pos 1
+one_more_below n m k i l f t g =
+    let more = counted-more (has_bit m) (has_bit k) i g 0 n (omega arith) (omega arith) f t in
+    ap pos more ∙ omega (arith, int_rules)
+
+lowest_below : (lo d : ℤ) (n m i : ℕ) → i < n → has_bit m i ≡ true → ((j : ℕ) → j < i → has_bit m j ≡ false) → lowest_or lo (bits_below n m) d ≡ lo +ℤ pos i
+lowest_below lo d n m i l t f = lowest-first (has_bit m) lo d i 0 n (omega arith) (omega arith) t f
+
 pub laws : WordLaws
 laws =
     record {
       wenc = wenc_told;
       wdec = wdec_told;
       wenc_above = wenc_above;
+      wdec_only = wdec_only;
+      win = λ lo r i. has_bit_at-key lo (natural r) i;
+      win_below = λ lo a r l. has_bit_at-below lo a (natural r) l;
+      wcard_none = λ r f. ap (λ is. int (pos (length is))) (none_below word_size (natural r) f);
+      wcard_with = λ r s i l h. one_more_below word_size (natural r) (natural s) i l h.0 h.1 h.2;
+      wcard = λ lo r. card-numbered lo (bits_below word_size (natural r));
+      wleast_none = λ lo d r f. ap (λ is. int (lowest_or lo is d)) (none_below word_size (natural r) f);
+      wleast_first = λ lo d r i l h. ap int (lowest_below lo d word_size (natural r) i l h.0 h.1);
+      wleast = λ lo d r. least-numbered lo d (bits_below word_size (natural r));
       wor = λ r s i l. has_bit-word_of (λ n. has_bit (natural r) n || has_bit (natural s) n) word_size i l;
       wand = λ r s i l. has_bit-word_of (λ n. has_bit (natural r) n && has_bit (natural s) n) word_size i l;
       wnot = λ r s i l. has_bit-word_of (λ n. has_bit (natural r) n && not (has_bit (natural s) n)) word_size i l;
