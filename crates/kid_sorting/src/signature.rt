@@ -3,7 +3,7 @@ ghost use Rattle.std.specs.Option.{option_map};
 ghost use Rattle.kid_value.specs.SortView.{plain_sort};
 ghost use Rattle.kid_term.specs.DefView.{plain_def};
 ghost use Rattle.kid_value.specs.NameView.{plain_name};
-ghost use Rattle.kid_sorting.specs.Definition.{definition_of};
+ghost use Rattle.kid_term.specs.Definition.{definition_of};
 
 use crate::find::find_definition;
 use kid_term::{Def, Defs};

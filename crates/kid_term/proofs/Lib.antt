@@ -8,6 +8,7 @@ pub mod EvalLemmas
 pub mod Exchange
 pub mod Inversions
 pub mod JoinedSorts
+pub mod LatestLemmas
 pub mod LogicSound
 pub mod MapSound
 pub mod Members

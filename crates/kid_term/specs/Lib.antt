@@ -7,8 +7,10 @@ pub mod Contexts
 pub mod Cost
 pub mod DefCode
 pub mod DefView
+pub mod Definition
 pub mod Eval
 pub mod Fitting
+pub mod Latest
 pub mod Laws
 pub mod LogicRows
 pub mod LogicSorts
