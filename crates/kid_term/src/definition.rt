@@ -1,5 +1,5 @@
 //! Definitions.
-ghost use Rattle.std.specs.Prelude.{◌≡◌, ◌∷◌, ◌++◌, [], IfOk, OnOk, OnErr, Some, cond, map, length, take, nat_eq};
+ghost use Rattle.std.specs.Prelude.{◌≡◌, ◌<◌, ◌∷◌, ◌++◌, [], get_or, IfOk, OnOk, OnErr, Some, cond, map, length, take, nat_eq};
 ghost use Rattle.std.specs.Cmp.Lexicographic.{pointwise};
 ghost use Rattle.std.specs.Option.{option_map};
 ghost use Rattle.indexmap.specs.IndexMap.{get};
@@ -134,9 +134,8 @@ impl Defs {
     pub fn find(&self, name: &Text) -> Option<&Def>
         ensures { option_map (λ d. plain_def d.now) result ≡ definition_of name.now self.now }
     {
-        let definitions = self.items.as_slice();
         match self.latest.get(name) {
-            Some(place) => Some(&definitions[*place]),
+            Some(place) => Some(definition_at(self.items.as_slice(), *place)),
             None => None,
         }
     }
@@ -154,6 +153,13 @@ impl Defs {
             None => None,
         }
     }
+}
+
+fn definition_at(definitions: &[Def], place: usize) -> &Def
+    requires { place < length definitions.now }
+    ensures { result.now ≡ get_or definitions.now place result.now }
+{
+    &definitions[place]
 }
 
 /// Adds a definition after the others, whose name is then found at its place.
