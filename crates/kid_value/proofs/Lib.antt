@@ -19,6 +19,7 @@ pub mod PutLemmas
 pub mod RowCanonical
 pub mod RowLemmas
 pub mod RowMeaning
+pub mod RowsAsMaps
 pub mod SequenceMeaning
 pub mod SequenceOrderLaws
 pub mod SetLaws

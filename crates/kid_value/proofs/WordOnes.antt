@@ -4,7 +4,7 @@ use Rattle.std.specs.List.{range_with_len}
 use Rattle.std.specs.Prelude.{filter}
 use Rattle.std.proofs.lemmas.Bool.{cases_lt}
 use Rattle.std.proofs.lemmas.Int.{ints as int_rules}
-use Rattle.kid_value.specs.PlainValue.{PlainValue, int, row}
+use Rattle.kid_value.specs.PlainValue.{PlainValue, int}
 use Rattle.kid_value.specs.Rows.Kinds.{set_from}
 use Rattle.kid_value.specs.Rows.Set as set_rows
 use Rattle.kid_value.specs.Rows.Word.{has_bit_at, has_bit, key_at, lowest_or, place_above}

@@ -1,5 +1,6 @@
 -- Which bits the words have that the operators make, and what is told of their bits.
-use Rattle.std.specs.Prelude.{◌≡◌, ℕ, ℤ, pos, ◌+ℤ◌, ◌<ℤ◌, ◌<◌, ◌≤◌, Bool, true, false, not, ◌||◌, ◌&&◌}
+use Rattle.std.specs.Prelude.{◌≡◌, ℕ, ◌^◌, ℤ, pos, ◌+ℤ◌, ◌<ℤ◌, ◌<◌, ◌≤◌, Bool, true, false, not, ◌||◌, ◌&&◌}
+use Rattle.kid_value.specs.Canonical.{IsCanonical}
 use Rattle.kid_value.specs.Contents.{IsSet, has}
 use Rattle.kid_value.specs.PlainValue.{PlainValue, int}
 use Rattle.kid_value.specs.Rows.Kinds.{natural}
@@ -11,6 +12,14 @@ use Rattle.kid_value.specs.Rows.Word.{has_bit, key_at, word_size}
 -- whether the word has the bit
 abbrev pub bit_of : ℕ → PlainValue → Bool
 bit_of i w = has_bit (natural (number_of w)) i
+
+-- the number is a word of n bits
+abbrev pub IsWord : ℕ → ℤ → Type 0
+IsWord n r = (m : ℕ) × (m < 2 ^ n) × (r ≡ pos m)
+
+-- each member of the set is one of the k numbers from lo on
+abbrev pub IsBetween : ℤ → ℤ → PlainValue → Type 0
+IsBetween lo k s = (x : PlainValue) → has x s ≡ true → (i : ℕ) × (i < natural k) × (x ≡ key_at lo i)
 
 -- the word has none of the bits
 abbrev pub HasNoBit : ℤ → Type 0
@@ -32,6 +41,10 @@ pub record WordLaws : Type 0 where
   pub wenc_above : (lo k : ℤ) (s : PlainValue) (i : ℕ) → IsSet s → natural k ≤ i → bit_of i (rows.wenc (int lo) (int k) s) ≡ false
   -- and the set of a word has no member more
   pub wdec_only : (lo k r : ℤ) (x : PlainValue) → has x (rows.wdec (int lo) (int k) (int r)) ≡ true → (i : ℕ) × (i < natural k) × (bit_of i (int r) ≡ true) × (x ≡ key_at lo i)
+  -- two words of the same bits are one, so that each of a word and its set gives the other back
+  pub same : (n : ℕ) (r s : ℤ) → IsWord n r → IsWord n s → ((i : ℕ) → i < n → bit_of i (int r) ≡ bit_of i (int s)) → r ≡ s
+  pub wenc_wdec : (lo k r : ℤ) → IsWord (natural k) r → rows.wenc (int lo) (int k) (rows.wdec (int lo) (int k) (int r)) ≡ int r
+  pub wdec_wenc : (lo k : ℤ) (s : PlainValue) → IsSet s → IsCanonical s → IsBetween lo k s → rows.wdec (int lo) (int k) (rows.wenc (int lo) (int k) s) ≡ s
   -- win tells whether a number is in the set that the word stands for
   pub win : (lo r : ℤ) (i : ℕ) → truth_of (rows.win (int lo) (key_at lo i) (int r)) ≡ bit_of i (int r)
   pub win_below : (lo a r : ℤ) → a <ℤ lo → truth_of (rows.win (int lo) (int a) (int r)) ≡ false

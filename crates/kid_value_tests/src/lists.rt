@@ -36,8 +36,9 @@ fn two_texts(alloc: Global) -> Result<Vec<Text>, Memory> {
 
 #[test]
 fn makes_lists_of_vectors(rt: HostRuntime) -> Result<(), Fail> {
+    let name = Text::from_slice(rt.alloc(), b"high")?;
     let texts = Texts::from_vec(two_texts(rt.alloc())?);
-    assert!(rt; is_among(&texts.items()[1], texts.items()));
+    assert!(rt; is_among(&name, texts.items()));
     assert_eq!(rt; texts.into_vec().len(), 2);
     Ok(())
 }
