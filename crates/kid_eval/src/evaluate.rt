@@ -33,6 +33,7 @@ use std::alloc::Global;
 /// # Errors
 ///
 /// Fails only where memory is wanting.
+#[tactic(auto, using(crate::proofs::OpeningLemmas::all_known))]
 pub fn eval(alloc: Global, defs: &Defs, env: &Env, term: &Term) -> Result<Value, Memory>
     requires { StaysSmall defs.now env.now (plain_term term.now) }
     ensures { IfOk result (λ v. plain v ≡ value (calls_of defs.now) env.now (plain_term term.now)) }

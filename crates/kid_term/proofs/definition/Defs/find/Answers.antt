@@ -1,4 +1,4 @@
-use Rattle.std.proofs.Common.{◌≡◌, ◌<◌, List, Some, length, get_or, map, ap, sym, ◌∙◌, subst}
+use Rattle.std.proofs.Common.{◌≡◌, ◌<◌, List, length, get_or, map, ap, sym, ◌∙◌, subst}
 use Rattle.kid_term.specs.DefView.{plain_def}
 use Rattle.kid_term.specs.Definition.{definition_of}
 use Rattle.kid_term.specs.declared.definition.Def.{Def}

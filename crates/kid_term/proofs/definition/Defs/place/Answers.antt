@@ -1,4 +1,4 @@
-use Rattle.std.proofs.Common.{◌≡◌, map, take, ap, sym, ◌∙◌, arith}
+use Rattle.std.proofs.Common.{map, take, ap, sym, ◌∙◌, arith}
 use Rattle.kid_term.specs.DefView.{plain_def}
 use Rattle.kid_term.specs.Latest.{latest_place}
 use Rattle.kid_term.proofs.LatestLemmas.{place-take, none-take}
