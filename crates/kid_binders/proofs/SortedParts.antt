@@ -1,27 +1,26 @@
 -- What the sort of a term tells of its parts and of their values.
 use Rattle.std.proofs.Common.{◌≡◌, ℕ, Bool, true, false, cond, List, [], ◌∷◌, Result, Ok, Err, refl, sym, ap, ◌∙◌, subst}
-use Rattle.std.specs.Prelude.{ℤ, not, ◌&&◌, ◌||◌}
+use Rattle.std.specs.Prelude.{ℤ, ◌||◌}
 use Rattle.kid_value.specs.PlainValue.{PlainValue, int, bool, set}
 use Rattle.kid_value.specs.PlainSort.{PlainSort, never, bools, ints, sets}
 use Rattle.kid_value.specs.ValueSet.{value_eq, is_member}
 use Rattle.kid_value.specs.Rows.Parts.{members_of}
 use Rattle.kid_value.proofs.ValueSetLaws.{value_eq-true}
-use Rattle.kid_term.specs.PlainTerm.{op, PlainTerm, var, number, truth, tag, app, bind, PlainTerms, no_term, term}
-use Rattle.kid_term.specs.Names.{same_name, Names, is_named, PlainDef}
+use Rattle.kid_term.specs.PlainTerm.{op, PlainTerm, bind, no_term, term}
+use Rattle.kid_term.specs.Names.{Names, is_named, PlainDef}
 use Rattle.kid_term.specs.Eval.{Env, Calls, eval}
-use Rattle.kid_term.specs.Substitution.{mentions, some_mentions}
+use Rattle.kid_term.specs.Substitution.{mentions}
 use Rattle.kid_term.specs.Small.{Checks}
 use Rattle.kid_term.specs.Sorted.{Fault, Shadow, ◌>>=◌, with_set}
-use Rattle.kid_term.specs.Sorting.{least_sort, least_sorts, sort_at, head_sort, op_sort, binder_sort, unshadowed, sum_sort}
+use Rattle.kid_term.specs.Sorting.{least_sort, least_sorts, head_sort, op_sort, binder_sort, unshadowed, sum_sort}
 use Rattle.kid_term.specs.Written.{written}
 use Rattle.kid_term.specs.Fitting.{IsOfSort, AreAllowed, Fits}
 use Rattle.kid_term.specs.declared.operator.Op.{Op}
 use Rattle.kid_term.specs.declared.operator.Binder.{Binder}
-use Rattle.kid_term.proofs.EvalLemmas.{same_name-true}
 use Rattle.kid_term.proofs.Inversions.{ok, bind_ok, with_set_ok, none_of}
 use Rattle.kid_term.proofs.Members.{Each, members_sound}
 use Rattle.kid_term.proofs.Scopes.{mentions-named}
-use Rattle.kid_term.proofs.SortedValue.{CallsFit, BinderSorts, binder_ok, evaluates, Fits-more, AreAllowed-more, element_allowed}
+use Rattle.kid_term.proofs.SortedValue.{CallsFit, BinderSorts, evaluates, Fits-more, AreAllowed-more, element_allowed}
 use Rattle.kid_binders.specs.Shapes.{one, two}
 use Rattle.kid_binders.specs.Meaning.{is_bool, is_int, is_set}
 
