@@ -25,7 +25,7 @@ use Rattle.kid_term.specs.declared.operator.Binder.{Binder}
 use Rattle.kid_term.specs.declared.operator.Binder.TheVariants as binder
 use Rattle.kid_codec.specs.Name.{is_letter, is_digit, is_name_byte, is_reserved, starts_with_letter, is_name}
 use Rattle.kid_codec.specs.Number.{number_of}
-use Rattle.kid_codec.specs.Word.{word_of, binder_word}
+use Rattle.kid_codec.specs.Word.{operator_word, binder_word}
 use Rattle.kid_codec.proofs.Found.{number_from}
 use Rattle.kid_codec.proofs.Numbers.{small_pos, small_negsuc}
 
@@ -91,7 +91,7 @@ number_word (negsuc n) h = let k = decimal_is_IsNumeral (suc n) (omega (arith, s
 pub read_number_word : (w : List ℕ) (n : ℤ) → number_of w ≡ Some n → is_word w ≡ true
 read_number_word w n p = let r = number_from w n p in ap is_word r.0 ∙ number_word n r.1
 
-pub op_word : (o : Op) → is_word (word_of o) ≡ true
+pub op_word : (o : Op) → is_word (operator_word o) ≡ true
 op_word (Logic logic.Not) = refl
 op_word (Logic logic.And) = refl
 op_word (Logic logic.Or) = refl
