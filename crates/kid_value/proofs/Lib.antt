@@ -19,6 +19,7 @@ pub mod PutLemmas
 pub mod RowCanonical
 pub mod RowLemmas
 pub mod RowMeaning
+pub mod RowsAsMaps
 pub mod SequenceMeaning
 pub mod SequenceOrderLaws
 pub mod SetLaws
@@ -30,3 +31,4 @@ pub mod StrictOrderLaws
 pub mod ValueOrderLaws
 pub mod ValueSetLaws
 pub mod WordMeaning
+pub mod WordOnes

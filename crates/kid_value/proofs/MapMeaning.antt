@@ -51,7 +51,7 @@ pub values_held : MapsHoldValues
 values_held = record { empty = (tt, λ k. refl); put = put_held; drop = drop_held; fill = fill_held; narrow = narrow_held }
 
 -- maps with the same look-ups are equal
-same_maps : (m n : PlainValue) → IsMap m → IsMap n → IsCanonical m → IsCanonical n → ((k : PlainValue) → value_at k m ≡ value_at k n) → m ≡ n
+pub same_maps : (m n : PlainValue) → IsMap m → IsMap n → IsCanonical m → IsCanonical n → ((k : PlainValue) → value_at k m ≡ value_at k n) → m ≡ n
 same_maps (map_of es) (map_of fs) i j c d h = by (map_cmp (table (entries es)) (table (entries fs))) refl
   where
     not_lower : (o p : Option PlainValue) → o ≡ p → IsLowerAt o p → ⊥

@@ -20,7 +20,8 @@ pub fn in_limits(n: i64) -> bool
 }
 
 /// Whether a sort is an allowed one: at most 8 deep, with integer bounds in order and within the limits, element and key sorts
-/// of at most 65536 values, sequence bounds of at most 65536, and enums of 1 to 64 names that ascend strictly by their bytes.
+/// of at most 65536 values, sequence bounds of at most 65536, and enums of 1 to 64 texts that ascend strictly by their bytes.
+/// Any bytes will do for these texts: whether they can be written as names is asked where a file is read.
 pub fn sort_ok(s: &Sort) -> bool
     ensures { result ≡ is_allowed (plain_sort s.now) }
 {
@@ -56,7 +57,7 @@ fn is_bounded(s: &Sort) -> bool
     }
 }
 
-/// Whether an enum may have these names.
+/// Whether an enum may have these texts as its names.
 fn has_names(names: &[Text]) -> bool
     ensures { result ≡ (nat_le 1 (length names.now) && nat_le (length names.now) 64 && ascending names.now) }
 {

@@ -55,6 +55,15 @@ impl Entries {
         }
     }
 
+    /// The keys with their values, ascending by the keys, without copies.
+    pub fn into_vec(self) -> Vec<(Value, Value)>
+        ensures items { map plain_entry result.items ≡ self }
+        ensures ascends { Ascends (keys self) }
+        ensures canonical { IsCanonical (map_of (table self)) }
+    {
+        self.items
+    }
+
     /// Sets the value of a key. Where memory is wanting the map stays as it was.
     pub fn put(&mut self, k: Value, v: Value) -> Result<(), Memory>
         ensures ok { OnOk result (self.new ≡ put_entry (plain k) (plain v) self.old) }

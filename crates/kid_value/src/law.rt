@@ -1,7 +1,8 @@
-//! Laws of sets, sequences, maps and words, each the contract of a function that does nothing.
+//! Laws of sets, sequences, maps, words and rows, each the contract of a function that does nothing.
 ghost use Rattle.kid_value.specs.Entries.{MapsHoldValues};
 ghost use Rattle.kid_value.specs.MapLaws.{MapLaws};
 ghost use Rattle.kid_value.specs.Members.{SetsHoldMembers};
+ghost use Rattle.kid_value.specs.RowLaws.{RowLaws};
 ghost use Rattle.kid_value.specs.SequenceLaws.{SequenceLaws};
 ghost use Rattle.kid_value.specs.SetLaws.{SetLaws};
 ghost use Rattle.kid_value.specs.SortLaws.{SortLaws};
@@ -42,13 +43,26 @@ pub fn map_laws()
 {}
 
 /// `wenc` gives the word that has the bits of a set's numbers, `wdec` the set of the numbers of a
-/// word's bits; `wor` has the bits of either word, `wand` of both, `wnot` of the first alone.
+/// word's bits and no other; two words of the same bits are one, and a word and its set give each
+/// other back; `win` tells whether a word has the bit of a number, `wcard` counts its bits, and
+/// `wleast` gives the number of the lowest; `wor` has the bits of either word, `wand` of both,
+/// `wnot` of the first alone.
 pub fn word_laws()
     ensures { WordLaws }
 {}
 
-/// What the operators on sets, sequences and maps make of values of their sorts is of its sort, and
-/// so are the members of a set and what a map has at a key.
+/// `rget` reads the map that `rdec` makes of a row, whose keys are numbers at which the row has
+/// items; the row of `renc` has at its numbers what the map has, and nothing beyond, so that it gives
+/// back a map that has no other keys; `rput` sets the value at a number of the row, `rdrop` takes it
+/// away, and at each other key both leave the map as it was.
+pub fn row_laws()
+    ensures { RowLaws }
+{}
+
+/// A value of a sort of sets, sequences or maps is such a value, a sequence no longer than its sort
+/// says; the members of a set, and a map's keys with their values, are of the sorts in it; and what
+/// `with`, `without`, `union`, `inter`, `diff`, `snoc`, `put`, `drop`, `fill` and `narrow` make of
+/// values of these sorts is of its sort.
 pub fn sort_laws()
     ensures { SortLaws }
 {}

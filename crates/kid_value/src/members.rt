@@ -65,6 +65,15 @@ impl Members {
         }
     }
 
+    /// The members, ascending, without copies.
+    pub fn into_vec(self) -> Vec<Value>
+        ensures items { map plain result.items ≡ self }
+        ensures ascends { Ascends self }
+        ensures canonical { IsCanonical (set (row self)) }
+    {
+        self.items
+    }
+
     /// Adds a member, and changes nothing where it is there already. Where memory is wanting the set stays as it was.
     pub fn put(&mut self, v: Value) -> Result<(), Memory>
         ensures ok { OnOk result (self.new ≡ put (plain v) self.old) }

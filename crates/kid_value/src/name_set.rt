@@ -1,4 +1,4 @@
-ghost use Rattle.std.specs.Prelude.{◌≡◌, IfOk};
+ghost use Rattle.std.specs.Prelude.{◌≡◌, ◌↔◌, Contains, IfOk, IsTrue};
 ghost use Rattle.kid_value.specs.NameSet.{is_among as among, are_among as all_among, names_ascend as ascending, names_union, least_from as least_of_all, least_name as least_of_names};
 
 use crate::memory::Memory;
@@ -7,8 +7,9 @@ use crate::texts::Texts;
 use std::alloc::Global;
 
 /// Whether a name is among names.
-pub(crate) fn is_among(name: &Text, names: &[Text]) -> bool
-    ensures { result ≡ among name.now names.now }
+pub fn is_among(name: &Text, names: &[Text]) -> bool
+    ensures value { result ≡ among name.now names.now }
+    ensures found { IsTrue result ↔ Contains names.now name.now }
 {
     names.iter().any(|other| name.is(other.as_slice()))
 }

@@ -39,6 +39,20 @@ impl Names {
         }
     }
 
+    /// The list of these names with their sorts. It takes no memory.
+    pub fn from_vec(items: Vec<(Text, Sort)>) -> Names
+        ensures { result ≡ map plain_name items.items }
+    {
+        Names { items }
+    }
+
+    /// The names with their sorts in their order, without copies.
+    pub fn into_vec(self) -> Vec<(Text, Sort)>
+        ensures { map plain_name result.items ≡ self }
+    {
+        self.items
+    }
+
     /// Adds a name with its sort at the end. Where memory is wanting the list stays as it was.
     pub fn push(&mut self, name: Text, sort: Sort) -> Result<(), Memory>
         ensures ok { OnOk result (self.new ≡ self.old ++ (name, plain_sort sort) ∷ []) }

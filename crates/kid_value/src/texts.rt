@@ -31,6 +31,20 @@ impl Texts {
         }
     }
 
+    /// The list of these texts. It takes no memory.
+    pub fn from_vec(items: Vec<Text>) -> Texts
+        ensures { result ≡ items.items }
+    {
+        Texts { items }
+    }
+
+    /// The texts in their order, without copies.
+    pub fn into_vec(self) -> Vec<Text>
+        ensures { result.items ≡ self }
+    {
+        self.items
+    }
+
     /// Adds a text at the end. Where memory is wanting the list stays as it was.
     pub fn push(&mut self, text: Text) -> Result<(), Memory>
         ensures ok { OnOk result (self.new ≡ self.old ++ text ∷ []) }

@@ -61,6 +61,14 @@ impl Values {
         Ok(())
     }
 
+    /// The values in their order, without copies.
+    pub fn into_vec(self) -> Vec<Value>
+        ensures items { map plain result.items ≡ self }
+        ensures canonical { IsCanonical (seq (row self)) }
+    {
+        self.items
+    }
+
     /// The number of values.
     pub fn len(&self) -> usize
         ensures { result ≡ length self.now }
