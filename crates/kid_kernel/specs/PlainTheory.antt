@@ -1,7 +1,7 @@
 -- A theory as plain data.
 use Rattle.std.specs.Prelude.{List}
 use Rattle.kid_term.specs.PlainSpec.{PlainSpec, plain_spec}
-use Rattle.kid_sorting.specs.PlainSignature.{PlainSignature}
+use Rattle.kid_term.specs.PlainSignature.{PlainSignature}
 use Rattle.kid_kernel.specs.PlainLaw.{PlainLaw}
 use Rattle.kid_kernel.specs.declared.theory.Theory.{Theory}
 

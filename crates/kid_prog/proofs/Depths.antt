@@ -2,7 +2,7 @@
 use Rattle.std.proofs.Common.{◌≡◌, ℕ, List, [], ◌∷◌, ◌++◌, refl, sym, ap, ◌∙◌}
 use Rattle.kid_term.specs.CallDepth.{Depths, body_depth, depths_over, depths_of}
 use Rattle.kid_term.specs.Names.{PlainDef}
-use Rattle.kid_sorting.specs.PlainSignature.{PlainSignature}
+use Rattle.kid_term.specs.PlainSignature.{PlainSignature}
 use Rattle.kid_prog.specs.Loading.{defined}
 
 depths_over-append : (ds : Depths) (defs : List PlainDef) (d : PlainDef) → depths_over ds (defs ++ d ∷ []) ≡ depths_over ds defs ++ (d.name, body_depth (depths_over ds defs) d.body) ∷ []

@@ -15,7 +15,7 @@ use Rattle.kid_term.specs.Names.{Names, PlainDef}
 use Rattle.kid_term.specs.Sorting.{sort_of}
 use Rattle.kid_term.specs.PlainSpec.{is_wanted}
 use Rattle.kid_sorting.specs.Declaring.{is_new, are_new, are_allowed, is_truth, is_sorted_definition}
-use Rattle.kid_sorting.specs.PlainSignature.{PlainSignature}
+use Rattle.kid_term.specs.PlainSignature.{PlainSignature}
 use Rattle.kid_codec.specs.SortSpelling.{headed}
 use Rattle.kid_codec.specs.TermSpelling.{term_spelling}
 use Rattle.kid_prog.specs.Formed.{are_formed, signature_of, output_of, IsFormed}

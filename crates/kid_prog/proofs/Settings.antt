@@ -4,7 +4,7 @@ use Rattle.std.specs.Prelude.{◌&&◌}
 use Rattle.kid_value.specs.PlainSort.{PlainSort}
 use Rattle.kid_term.specs.Names.{Names, PlainDef}
 use Rattle.kid_sorting.specs.Declaring.{are_allowed}
-use Rattle.kid_sorting.specs.PlainSignature.{PlainSignature}
+use Rattle.kid_term.specs.PlainSignature.{PlainSignature}
 use Rattle.kid_prog.specs.Forms.{setting, main_sorted, search_sorted}
 use Rattle.kid_prog.specs.PlainStmt.{PlainStmt, stmt_row}
 use Rattle.kid_prog.specs.Rules.{obey}

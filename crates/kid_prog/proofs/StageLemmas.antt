@@ -14,7 +14,7 @@ use Rattle.kid_term.specs.PlainTerm.{PlainTerm}
 use Rattle.kid_term.specs.TermView.{plain_term}
 use Rattle.kid_term.specs.declared.Term.{Term}
 use Rattle.kid_term.specs.declared.definition.Def.{Def}
-use Rattle.kid_sorting.specs.PlainSignature.{PlainSignature}
+use Rattle.kid_term.specs.PlainSignature.{PlainSignature}
 use Rattle.kid_codec.proofs.Found.{same_some}
 use Rattle.kid_prog.specs.PlainStmt.{PlainStmt, PlainStmts, stmt_row}
 use Rattle.kid_prog.specs.PlainProgram.{PlainProgram}

@@ -6,7 +6,7 @@ use Rattle.kid_term.specs.Names.{PlainDef}
 use Rattle.kid_term.specs.PlainSpec.{is_wanted}
 use Rattle.kid_term.specs.Sorting.{sort_of}
 use Rattle.kid_sorting.specs.Declaring.{are_new, are_allowed, is_sorted_definition}
-use Rattle.kid_sorting.specs.PlainSignature.{PlainSignature}
+use Rattle.kid_term.specs.PlainSignature.{PlainSignature}
 use Rattle.kid_prog.specs.Forms.{is_formed_definition, is_undeclared, are_undefined, are_undeclared}
 use Rattle.kid_prog.specs.PlainProgram.{PlainProgram}
 use Rattle.kid_prog.specs.Rules.{obey, setting_of, search_scope}

@@ -10,7 +10,7 @@ use Rattle.kid_term.specs.PlainTerm.{PlainTerm}
 use Rattle.kid_term.specs.Names.{Names, PlainDef}
 use Rattle.kid_term.specs.Sorting.{sort_of}
 use Rattle.kid_sorting.specs.Declaring.{is_new, are_new, are_allowed, is_truth, is_sorted_definition, is_shallow, is_undefined}
-use Rattle.kid_sorting.specs.PlainSignature.{PlainSignature}
+use Rattle.kid_term.specs.PlainSignature.{PlainSignature}
 use Rattle.kid_codec.specs.NamedValues.{term_has_tags}
 use Rattle.kid_codec.specs.Reading.{◌>>=◌}
 use Rattle.kid_codec.specs.Shape.{form, begins, single, couple, quadruple}

@@ -2,5 +2,4 @@ pub mod Answers
 pub mod Binders
 pub mod Declaring
 pub mod Definition
-pub mod PlainSignature
 pub mod ScopeView

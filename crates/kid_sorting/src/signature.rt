@@ -19,7 +19,7 @@ pub struct Signature {
 }
 
 impl Model for Signature {
-    ghost use Rattle.kid_sorting.specs.PlainSignature.{PlainSignature, coded_signature};
+    ghost use Rattle.kid_term.specs.PlainSignature.{PlainSignature, coded_signature};
 
     ghost Value = { PlainSignature };
 

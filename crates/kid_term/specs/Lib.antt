@@ -20,6 +20,7 @@ pub mod NumberSorts
 pub mod PairRows
 pub mod PairSorts
 pub mod Places
+pub mod PlainSignature
 pub mod PlainSpec
 pub mod PlainTerm
 pub mod Quote

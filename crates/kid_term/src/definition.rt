@@ -66,6 +66,20 @@ impl Defs {
         }
     }
 
+    /// These definitions. Takes no memory.
+    pub fn from_vec(definitions: Vec<Def>) -> Defs
+        ensures { result ≡ map plain_def definitions.items }
+    {
+        Defs { items: definitions }
+    }
+
+    /// Its definitions. Takes no memory.
+    pub fn into_vec(self) -> Vec<Def>
+        ensures { map plain_def result.items ≡ self }
+    {
+        self.items
+    }
+
     /// Adds a definition after the others.
     ///
     /// # Errors

@@ -155,6 +155,20 @@ impl Terms {
         }
     }
 
+    /// These terms. Takes no memory.
+    pub fn from_vec(terms: Vec<Term>) -> Terms
+        ensures { result ≡ map plain_term terms.items }
+    {
+        Terms { items: terms }
+    }
+
+    /// Its terms. Takes no memory.
+    pub fn into_vec(self) -> Vec<Term>
+        ensures { map plain_term result.items ≡ self }
+    {
+        self.items
+    }
+
     /// Adds a term at the end.
     ///
     /// # Errors

@@ -30,6 +30,15 @@ impl Path {
         }
     }
 
+    /// The path of these steps. Takes no memory.
+    pub fn from_vec(steps: Vec<u32>) -> Path
+        ensures { result ≡ steps.items }
+    {
+        Path {
+            steps: SmallVec::from_vec(steps),
+        }
+    }
+
     /// Goes one step further down.
     ///
     /// # Errors

@@ -40,6 +40,20 @@ impl Subst {
         }
     }
 
+    /// These names with their terms. Takes no memory.
+    pub fn from_vec(pairs: Vec<(Text, Term)>) -> Subst
+        ensures { result ≡ map plain_pair pairs.items }
+    {
+        Subst { items: pairs }
+    }
+
+    /// Its names with their terms. Takes no memory.
+    pub fn into_vec(self) -> Vec<(Text, Term)>
+        ensures { map plain_pair result.items ≡ self }
+    {
+        self.items
+    }
+
     /// Adds a name with its term after the others.
     ///
     /// # Errors
