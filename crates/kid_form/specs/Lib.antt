@@ -3,6 +3,7 @@ pub mod Definition
 pub mod First
 pub mod Form
 pub mod FormData
+pub mod FormExamples
 pub mod FormLaws
 pub mod FormLists
 pub mod FormTrees

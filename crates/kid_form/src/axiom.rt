@@ -6,7 +6,6 @@ ghost use Rattle.kid_form.specs.Axiom.{given_form};
 
 use crate::leaves::TheoryTerm;
 use crate::lists::read_each;
-use crate::stand_in::terms_from;
 use kid_codec::CodecFault;
 use kid_codec::shape::form;
 use kid_sexp::Tree;
@@ -25,5 +24,5 @@ pub fn read_given(alloc: Global, tree: &Tree) -> Result<Terms, CodecFault>
         return Err(CodecFault::Form);
     };
     let conditions = read_each::<TheoryTerm>(alloc, parts)?;
-    Ok(terms_from(alloc, conditions)?)
+    Ok(Terms::from_vec(conditions))
 }

@@ -7,7 +7,6 @@ ghost use Rattle.kid_form.specs.Leaves.{word_form, declared, declared_names};
 
 use crate::leaves::{AnyWord, Name, SortForm};
 use crate::lists::{put_each, read_listed, read_two};
-use crate::stand_in::names_from;
 use crate::tree_form::TreeForm;
 use kid_codec::{CodecFault, tree_of_sort, word_tree};
 use kid_sexp::{Forest, Tree};
@@ -110,7 +109,7 @@ impl TreeForm for DeclaredWords {
 
     fn read(alloc: Global, tree: &Tree) -> Result<Names, CodecFault> {
         let items = read_listed::<DeclaredWord>(alloc, tree)?;
-        Ok(names_from(alloc, items)?)
+        Ok(Names::from_vec(items))
     }
 
     fn tree(alloc: Global, of: &Names) -> Result<Tree, Memory> {
@@ -135,7 +134,7 @@ impl TreeForm for DeclaredNames {
 
     fn read(alloc: Global, tree: &Tree) -> Result<Names, CodecFault> {
         let items = read_listed::<DeclaredName>(alloc, tree)?;
-        Ok(names_from(alloc, items)?)
+        Ok(Names::from_vec(items))
     }
 
     fn tree(alloc: Global, of: &Names) -> Result<Tree, Memory> {

@@ -1,4 +1,5 @@
 //! Laws of forms, each the contract of a function that does nothing.
+ghost use Rattle.kid_form.specs.FormExamples.{FormExamples};
 ghost use Rattle.kid_form.specs.FormLaws.{SharedFormsAreLawful};
 
 /// What is read as a definition, as a number of answers or as the parts of an axiom was spelled so where it is valid, and what has
@@ -6,4 +7,10 @@ ghost use Rattle.kid_form.specs.FormLaws.{SharedFormsAreLawful};
 #[tactic(auto, using(crate::proofs::SharedLaws::shared_forms))]
 pub fn shared_forms_are_lawful()
     ensures { SharedFormsAreLawful }
+{}
+
+/// What small forms of each builder read, and what they refuse.
+#[tactic(auto, using(crate::proofs::ExampleProofs::form_examples))]
+pub fn forms_by_example()
+    ensures { FormExamples }
 {}

@@ -3,7 +3,6 @@ ghost use Rattle.std.specs.Prelude.{◌≡◌, map};
 ghost use Rattle.kid_form.specs.Leaves.{natural_up_to};
 
 use crate::lists::{put_each, read_listed};
-use crate::stand_in::path_from;
 use crate::tree_form::TreeForm;
 use kid_codec::{
     CodecFault, number_of, number_tree, spelled_name, spelled_sort, spelled_term, term_of,
@@ -155,7 +154,7 @@ impl TreeForm for PathForm {
 
     fn read(alloc: Global, tree: &Tree) -> Result<Path, CodecFault> {
         let steps = read_listed::<Index>(alloc, tree)?;
-        Ok(path_from(alloc, steps)?)
+        Ok(Path::from_vec(steps))
     }
 
     fn tree(alloc: Global, of: &Path) -> Result<Tree, Memory> {

@@ -8,14 +8,13 @@ mod first;
 mod law;
 mod leaves;
 mod lists;
-mod stand_in;
 mod tree_form;
 
 pub use axiom::read_given;
 pub use declared::{DeclaredName, DeclaredNames, DeclaredWord, DeclaredWords};
 pub use definition::{definition_tree, read_program_definition, read_theory_definition};
 pub use first::{first_tree, read_first};
-pub use law::shared_forms_are_lawful;
+pub use law::{forms_by_example, shared_forms_are_lawful};
 pub use leaves::{
     AllowedTerm, AnyTerm, AnyWord, Index, Name, Number, PathForm, SortForm, TheoryTerm,
 };
