@@ -1,6 +1,7 @@
 //! Reads a text by a form and prints what was read. `None` is want of memory, a refusal, or a text that is no tree.
 use kid_form::{
-    DeclaredWords, PathForm, TreeForm, definition_tree, first_tree, read_first, read_program_definition, read_theory_definition,
+    DeclaredWords, PathForm, TreeForm, definition_tree, first_tree, read_first,
+    read_program_definition, read_theory_definition,
 };
 use kid_sexp::{Forest, Tree, print, read};
 use std::alloc::Global;
