@@ -20,6 +20,7 @@ use Rattle.kid_term.specs.declared.operator.Binder.{Binder}
 use Rattle.kid_term.proofs.EvalLemmas.{same_name-true}
 use Rattle.kid_term.proofs.Inversions.{ok, bind_ok, with_set_ok, none_of}
 use Rattle.kid_term.proofs.Members.{Each, members_sound}
+use Rattle.kid_term.proofs.Scopes.{mentions-named}
 use Rattle.kid_term.proofs.SortedValue.{CallsFit, BinderSorts, binder_ok, evaluates, Fits-more, AreAllowed-more, element_allowed}
 use Rattle.kid_binders.specs.Shapes.{one, two}
 use Rattle.kid_binders.specs.Meaning.{is_bool, is_int, is_set}
@@ -85,50 +86,12 @@ new_name known names b x u t s p =
     by true a p = cc
     by false a p = refl
 
-or_cases : (b c : Bool) (P : Type 0) → (b || c) ≡ true → (b ≡ true → P) → (b ≡ false → c ≡ true → P) → P
-or_cases true c P m h k = h refl
-or_cases false c P m h k = k refl m
-
-at_named : (x : List ℕ) (names : Names) (s : PlainSort) → sort_at x names ≡ Ok s → is_named x names ≡ true
-at_named x [] s p = cc
-at_named x (n ∷ names) s p = by (same_name x n.0) p (at_named x names s)
-  where
-    by : (c : Bool) → cond c (ok n.1) (sort_at x names) ≡ ok s → (sort_at x names ≡ ok s → is_named x names ≡ true) → (c || is_named x names) ≡ true
-    by true q ih = refl
-    by false q ih = ih q
-
 -- a sorted term names only what is in scope
-module _ (known : List PlainDef) (z : List ℕ) where
-  mutual
-    pub in_scope : (t : PlainTerm) (names : Names) (s : PlainSort) → least_sort known names t ≡ Ok s → mentions z t ≡ true → is_named z names ≡ true
-    in_scope (var x) names s p m = subst (λ y. is_named y names ≡ true) (sym (same_name-true z x m)) (at_named x names s p)
-    in_scope (number n) names s p m = cc
-    in_scope (truth b) names s p m = cc
-    in_scope (tag n) names s p m = cc
-    in_scope (app h ts) names s p m = let r = bind_ok (least_sorts known names ts) (head_sort known h (written ts)) s p in all_in_scope ts names r.0 r.1 m
-    in_scope (bind b x u t) names s p m =
-        let r = binder_ok known names b x u t s p in
-        or_cases (mentions z u) (not (same_name z x) && mentions z t) (is_named z names ≡ true) m
-        (λ k. in_scope u names (sets r.element) r.of_set k)
-        (λ d k. by (same_name z x) (mentions z t) refl refl k (in_scope t ((x, r.element) ∷ names) r.body r.of_body))
-      where
-        by : (c d : Bool) → same_name z x ≡ c → mentions z t ≡ d → (not c && d) ≡ true → (mentions z t ≡ true → (same_name z x || is_named z names) ≡ true) → is_named z names ≡ true
-        by true d e f k h = cc
-        by false true e f k h = let g = h f in ap (λ c. c || is_named z names) (sym e) ∙ g
-        by false false e f k h = cc
-
-    pub all_in_scope : (ts : PlainTerms) (names : Names) (ss : List PlainSort) → least_sorts known names ts ≡ Ok ss → some_mentions z ts ≡ true → is_named z names ≡ true
-    all_in_scope no_term names ss p m = cc
-    all_in_scope (term t ts) names ss p m =
-        let r = bind_ok (least_sort known names t) (λ s. least_sorts known names ts >>= λ us. Ok (s ∷ us)) ss p in
-        let q = bind_ok (least_sorts known names ts) (λ us. Ok (r.0 ∷ us)) ss r.2 in
-        or_cases (mentions z t) (some_mentions z ts) (is_named z names ≡ true) m (λ k. in_scope t names r.0 r.1 k) (λ d k. all_in_scope ts names q.0 q.1 k)
-
 pub not_in_scope : (known : List PlainDef) (z : List ℕ) (t : PlainTerm) (names : Names) (s : PlainSort) → least_sort known names t ≡ Ok s → is_named z names ≡ false → mentions z t ≡ false
 not_in_scope known z t names s p n = by (mentions z t) refl
   where
     by : (c : Bool) → mentions z t ≡ c → mentions z t ≡ false
-    by true e = let f = in_scope known z t names s p e in cc
+    by true e = let f = mentions-named t known names s p z e in cc
     by false e = e
 
 module _ (known : List PlainDef) (calls : Calls) (checks : Checks) (fit : CallsFit known calls checks) (names : Names) (env : Env) (allowed : AreAllowed names) (fits : Fits names env) where

@@ -1,79 +1,128 @@
--- Which definition a call opens, by the last definition.
-use Rattle.std.proofs.Common.{◌≡◌, ◌≢◌, ℕ, ◌+◌, true, false, List, [], ◌∷◌, ◌++◌, map, length, refl, sym, ap, ◌∙◌, arith}
-use Rattle.std.specs.Prelude.{nat_eq, Option, Some, None, MatchOption}
-use Rattle.std.proofs.lemmas.List.{map-append}
+-- Which definition a call opens, by the place of the last one of its name.
+use Rattle.std.proofs.Common.{◌≡◌, ◌≢◌, ℕ, zero, suc, ◌+◌, ◌<◌, ◌≤◌, Bool, true, false, List, [], ◌∷◌, map, length, take, get_or, refl, sym, ap, ◌∙◌, cond, subst, arith}
+use Rattle.std.specs.Prelude.{nat_eq, Option, Some, None}
 use Rattle.std.proofs.lemmas.Bool.Decides.{nat_tests}
+use Rattle.std.proofs.Math.Seq.{take-length}
 use Rattle.kid_value.specs.PlainValue.{PlainValue, bool}
 use Rattle.kid_term.specs.DefView.{plain_def}
 use Rattle.kid_term.specs.Names.{same_name, PlainDef}
+use Rattle.kid_term.specs.Latest.{later, latest_place}
 use Rattle.kid_term.specs.Eval.{eval, Calls, call_at, calls_over, calls_of, bound, def_value}
 use Rattle.kid_term.specs.Small.{Checks, check_at, checks_over, checks_of, def_small, stays_small}
 use Rattle.kid_term.specs.Cost.{Costs, cost, cost_at, costs_over, costs_of}
 use Rattle.kid_term.specs.declared.definition.Def.{Def}
 use Rattle.kid_eval.specs.Opening.{Opens, IsUndefined}
 
-calls_over-append : (calls : Calls) (ds : List PlainDef) (d : PlainDef) → calls_over calls (ds ++ d ∷ []) ≡ (d.name, def_value (calls_over calls ds) d) ∷ calls_over calls ds
-calls_over-append calls [] d = refl
-calls_over-append calls (e ∷ ds) d = calls_over-append ((e.name, def_value calls e) ∷ calls) ds d
+abbrev place : ℕ → Option ℕ
+place i = Some i
 
-checks_over-append : (calls : Calls) (checks : Checks) (ds : List PlainDef) (d : PlainDef)
-    → checks_over calls checks (ds ++ d ∷ []) ≡ (d.name, def_small (calls_over calls ds) (checks_over calls checks ds) d) ∷ checks_over calls checks ds
-checks_over-append calls checks [] d = refl
-checks_over-append calls checks (e ∷ ds) d = checks_over-append ((e.name, def_value calls e) ∷ calls) ((e.name, def_small calls checks e) ∷ checks) ds d
+abbrev nowhere : Option ℕ
+nowhere = None
 
-costs_over-append : (costs : Costs) (ds : List PlainDef) (d : PlainDef)
-    → costs_over costs (ds ++ d ∷ []) ≡ (d.name, cost (costs_over costs ds) d.body + length d.parameters) ∷ costs_over costs ds
-costs_over-append costs [] d = refl
-costs_over-append costs (e ∷ ds) d = costs_over-append ((e.name, cost costs e.body + length e.parameters) ∷ costs) ds d
+nowhere_parts : (o : Option ℕ) (b : Bool) → later o b ≡ nowhere → (o ≡ nowhere) × (b ≡ false)
+nowhere_parts (Some i) b p = cc
+nowhere_parts None true p = cc
+nowhere_parts None false p = (refl, refl)
 
-module _ (all earlier : List Def) (d : Def) (f : List ℕ) (are : all ≡ earlier ++ d ∷ []) where
-  plain_all : map plain_def all ≡ map plain_def earlier ++ plain_def d ∷ []
-  plain_all = ap (map plain_def) are ∙ map-append plain_def earlier (d ∷ [])
+place_cases : (o : Option ℕ) (b : Bool) (i : ℕ) (P : Type 0) → later o b ≡ place i → ((k : ℕ) → o ≡ place k → suc k ≡ i → P) → (o ≡ nowhere → b ≡ true → 0 ≡ i → P) → P
+place_cases (Some k) b i P p f g = f k refl (let e : suc k ≡ i = cc in e)
+place_cases None true i P p f g = g refl refl (let e : 0 ≡ i = cc in e)
+place_cases None false i P p f g = cc
 
-  calls_by_last : calls_of (map plain_def all) ≡ (d.name, def_value (calls_of (map plain_def earlier)) (plain_def d)) ∷ calls_of (map plain_def earlier)
-  calls_by_last = ap calls_of plain_all ∙ calls_over-append [] (map plain_def earlier) (plain_def d)
+module _ (f : List ℕ) where
+  -- definitions of other names change nothing, and are passed by a search
+  record Passes (calls : Calls) (checks : Checks) (costs : Costs) (ds : List PlainDef) : Type 0 where
+    value : (vs : List PlainValue) → call_at f (calls_over calls ds) vs ≡ call_at f calls vs
+    small : (vs : List PlainValue) → check_at f (checks_over calls checks ds) vs ≡ check_at f checks vs
+    cheaper : cost_at f costs ≤ cost_at f (costs_over costs ds)
 
-  checks_by_last : checks_of (map plain_def all)
-      ≡ (d.name, def_small (calls_of (map plain_def earlier)) (checks_of (map plain_def earlier)) (plain_def d)) ∷ checks_of (map plain_def earlier)
-  checks_by_last = ap checks_of plain_all ∙ checks_over-append [] [] (map plain_def earlier) (plain_def d)
-
-  costs_by_last : costs_of (map plain_def all) ≡ (d.name, cost (costs_of (map plain_def earlier)) (plain_def d).body + length d.parameters) ∷ costs_of (map plain_def earlier)
-  costs_by_last = ap costs_of plain_all ∙ costs_over-append [] (map plain_def earlier) (plain_def d)
-
-  pub opens_here : same_name f d.name ≡ true → Opens f (map plain_def all) (plain_def d) (map plain_def earlier)
-  opens_here e =
-      let k : cost_at f (costs_of (map plain_def all)) ≡ cost (costs_of (map plain_def earlier)) (plain_def d).body + length d.parameters + 1 = ap (cost_at f) costs_by_last ∙ rw e refl in
+  passes : (calls : Calls) (checks : Checks) (costs : Costs) (ds : List PlainDef) → latest_place f ds ≡ None → Passes calls checks costs ds
+  passes calls checks costs [] p = record { value = λ vs. refl; small = λ vs. refl; cheaper = omega arith }
+  passes calls checks costs (d ∷ ds) p =
+      let q = nowhere_parts (latest_place f ds) (same_name f d.name) p in
+      let own = cost costs d.body + length d.parameters in
+      let r = passes ((d.name, def_value calls d) ∷ calls) ((d.name, def_small calls checks d) ∷ checks) ((d.name, own) ∷ costs) ds q.0 in
+      let e : cost_at f ((d.name, own) ∷ costs) ≡ cost_at f costs + 1 = ap (λ c. cond c own (cost_at f costs) + 1) q.1 in
+      let le = r.cheaper in
       record {
-        value = λ vs. ap (λ c. call_at f c vs) calls_by_last ∙ rw e refl;
-        small = λ vs. ap (λ c. check_at f c vs) checks_by_last ∙ rw e refl;
+        value = λ vs. r.value vs ∙ ap (λ c. cond c (def_value calls d vs) (call_at f calls vs)) q.1;
+        small = λ vs. r.small vs ∙ ap (λ c. cond c (def_small calls checks d vs) (check_at f checks vs)) q.1;
         cheaper = omega arith;
       }
 
-  module _ (e : same_name f d.name ≡ false) where
-    call_earlier : (vs : List PlainValue) → call_at f (calls_of (map plain_def all)) vs ≡ call_at f (calls_of (map plain_def earlier)) vs
-    call_earlier vs = ap (λ c. call_at f c vs) calls_by_last ∙ rw e refl
+  -- the definition at the place is opened, over those that stand before it
+  record OpensOver (calls : Calls) (checks : Checks) (costs : Costs) (ds : List PlainDef) (d : PlainDef) (i : ℕ) : Type 0 where
+    value : (vs : List PlainValue) → call_at f (calls_over calls ds) vs ≡ def_value (calls_over calls (take i ds)) d vs
+    small : (vs : List PlainValue) → check_at f (checks_over calls checks ds) vs ≡ def_small (calls_over calls (take i ds)) (checks_over calls checks (take i ds)) d vs
+    cheaper : cost (costs_over costs (take i ds)) d.body < cost_at f (costs_over costs ds)
 
-    check_earlier : (vs : List PlainValue) → check_at f (checks_of (map plain_def all)) vs ≡ check_at f (checks_of (map plain_def earlier)) vs
-    check_earlier vs = ap (λ c. check_at f c vs) checks_by_last ∙ rw e refl
+  opens_first : (calls : Calls) (checks : Checks) (costs : Costs) (x : PlainDef) (ds : List PlainDef) (d : PlainDef) → latest_place f ds ≡ None → same_name f x.name ≡ true → d ≡ x
+      → OpensOver calls checks costs (x ∷ ds) d 0
+  opens_first calls checks costs x ds d none here is =
+      let own = cost costs x.body + length x.parameters in
+      let r = passes ((x.name, def_value calls x) ∷ calls) ((x.name, def_small calls checks x) ∷ checks) ((x.name, own) ∷ costs) ds none in
+      let e : cost_at f ((x.name, own) ∷ costs) ≡ own + 1 = ap (λ c. cond c own (cost_at f costs) + 1) here in
+      let same : cost costs d.body ≡ cost costs x.body = ap (λ (z : PlainDef). cost costs z.body) is in
+      let le = r.cheaper in
+      record {
+        value = λ vs. r.value vs ∙ ap (λ c. cond c (def_value calls x vs) (call_at f calls vs)) here ∙ ap (λ z. def_value calls z vs) (sym is);
+        small = λ vs. r.small vs ∙ ap (λ c. cond c (def_small calls checks x vs) (check_at f checks vs)) here ∙ ap (λ z. def_small calls checks z vs) (sym is);
+        cheaper = omega arith;
+      }
 
-    pub opens_earlier : (o : PlainDef) (ds : List PlainDef) → Opens f (map plain_def earlier) o ds → Opens f (map plain_def all) o ds
-    opens_earlier o ds h =
-        let k : cost_at f (costs_of (map plain_def all)) ≡ cost_at f (costs_of (map plain_def earlier)) + 1 = ap (cost_at f) costs_by_last ∙ rw e refl in
-        record {
-          value = λ vs. call_earlier vs ∙ h.value vs;
-          small = λ vs. check_earlier vs ∙ h.small vs;
-          cheaper = omega arith;
-        }
+  opens_over : (calls : Calls) (checks : Checks) (costs : Costs) (ds : List PlainDef) (i : ℕ) (d : PlainDef) → latest_place f ds ≡ Some i → d ≡ get_or ds i d → OpensOver calls checks costs ds d i
+  opens_over calls checks costs [] i d p is = cc
+  opens_over calls checks costs (x ∷ ds) i d p is =
+      place_cases (latest_place f ds) (same_name f x.name) i (OpensOver calls checks costs (x ∷ ds) d i) p
+      (λ k e s.
+      let h = opens_over ((x.name, def_value calls x) ∷ calls) ((x.name, def_small calls checks x) ∷ checks) ((x.name, cost costs x.body + length x.parameters) ∷ costs) ds k d e
+      (is ∙ ap (λ n. get_or (x ∷ ds) n d) (sym s)) in
+      let later : OpensOver calls checks costs (x ∷ ds) d (suc k) = record { value = h.value; small = h.small; cheaper = h.cheaper } in
+      subst (OpensOver calls checks costs (x ∷ ds) d) s later)
+      (λ e here s. subst (OpensOver calls checks costs (x ∷ ds) d) s (opens_first calls checks costs x ds d e here (is ∙ ap (λ n. get_or (x ∷ ds) n d) (sym s))))
 
-    pub undefined_earlier : IsUndefined f (map plain_def earlier) → IsUndefined f (map plain_def all)
-    undefined_earlier h = λ vs. call_earlier vs ∙ h vs
+  -- the place is one of the list, and one of those that are known
+  place-known : (n : ℕ) (ds : List Def) (i : ℕ) → latest_place f (take n (map plain_def ds)) ≡ Some i → (i < length ds) × (i < n)
+  place-known zero ds i p = cc
+  place-known (suc n) [] i p = cc
+  place-known (suc n) (d ∷ ds) i p =
+      place_cases (latest_place f (take n (map plain_def ds))) (same_name f d.name) i ((i < suc (length ds)) × (i < suc n)) p
+      (λ k e s. let h = place-known n ds k e in let a = h.0 in let b = h.1 in (omega arith, omega arith))
+      (λ e here s. (omega arith, omega arith))
 
-    -- what is opened among the earlier ones is opened among all
-    pub opened_earlier : {X : Type 0} (o : Option X) (of : X → PlainDef) (before : X → List PlainDef)
-        → MatchOption o (IsUndefined f (map plain_def earlier)) (λ x. Opens f (map plain_def earlier) (of x) (before x))
-        → MatchOption o (IsUndefined f (map plain_def all)) (λ x. Opens f (map plain_def all) (of x) (before x))
-    opened_earlier None of before h = undefined_earlier h
-    opened_earlier (Some x) of before h = opens_earlier (of x) (before x) h
+item-taken : (n i : ℕ) (ds : List Def) (d : Def) → i < n → d ≡ get_or ds i d → plain_def d ≡ get_or (take n (map plain_def ds)) i (plain_def d)
+item-taken zero i ds d lt is = absurd (omega arith)
+item-taken (suc n) i [] d lt is = refl
+item-taken (suc n) zero (x ∷ ds) d lt is = ap plain_def is
+item-taken (suc n) (suc i) (x ∷ ds) d lt is = item-taken n i ds d (omega arith) is
+
+take-taken : (i n : ℕ) (ds : List PlainDef) → i < n → take i (take n ds) ≡ take i ds
+take-taken zero n ds lt = refl
+take-taken (suc i) zero ds lt = absurd (omega arith)
+take-taken (suc i) (suc n) [] lt = refl
+take-taken (suc i) (suc n) (d ∷ ds) lt = ap (λ z. d ∷ z) (take-taken i n ds (omega arith))
+
+-- all definitions are known
+pub all_known : (ds : List PlainDef) → take (length ds) ds ≡ ds
+all_known ds = take-length ds
+
+module _ (f : List ℕ) (n : ℕ) (items : List Def) (all : List PlainDef) (are : map plain_def items ≡ all) where
+  pub undefined : latest_place f (take n all) ≡ None → IsUndefined f (take n all)
+  undefined p vs = (passes f [] [] [] (take n all) p).value vs
+
+  found : (i : ℕ) → latest_place f (take n all) ≡ Some i → (i < length items) × (i < n)
+  found i p = place-known f n items i (ap (λ ds. latest_place f (take n ds)) are ∙ p)
+
+  pub place_within : (i : ℕ) → latest_place f (take n all) ≡ Some i → i < length items
+  place_within i p = (found i p).0
+
+  pub opens_at : (i : ℕ) (d : Def) → latest_place f (take n all) ≡ Some i → d ≡ get_or items i d → Opens f (take n all) (plain_def d) (take i all)
+  opens_at i d p is =
+      let lt = (found i p).1 in
+      let at : plain_def d ≡ get_or (take n all) i (plain_def d) = item-taken n i items d lt is ∙ ap (λ ds. get_or (take n ds) i (plain_def d)) are in
+      let h = opens_over f [] [] [] (take n all) i (plain_def d) p at in
+      let opened : Opens f (take n all) (plain_def d) (take i (take n all)) = record { value = h.value; small = h.small; cheaper = h.cheaper } in
+      subst (Opens f (take n all) (plain_def d)) (take-taken i n all lt) opened
 
 module _ (f : List ℕ) (all earlier : List PlainDef) (d : PlainDef) (o : Opens f all d earlier) (vs : List PlainValue) where
   module _ (same : length vs ≡ length d.parameters) where

@@ -7,7 +7,7 @@ ghost use Rattle.kid_term.specs.TermView.{plain_term};
 ghost use Rattle.kid_term.specs.Eval.{eval as value, op_value, cast_value, binder_value, calls_of, call_at};
 ghost use Rattle.kid_term.specs.LogicRows.{logic_value};
 ghost use Rattle.kid_term.specs.Small.{StaysSmall, is_small, op_small, binder_small, check_at, checks_of};
-ghost use Rattle.kid_term.specs.DefView.{plain_def};
+ghost use Rattle.kid_eval.specs.KnownView.{known_of};
 ghost use Rattle.kid_eval.specs.ScopeView.{plain_seen};
 ghost use Rattle.kid_eval.specs.Binding.{is_found};
 ghost use Rattle.kid_eval.specs.Inside.{value_in, values_in, value_with, small_in, all_small_in, op_small_in, small_with};
@@ -16,11 +16,11 @@ use crate::binder::{image, is_true, kept, members, total};
 use crate::cast::cast;
 use crate::env::Env;
 use crate::logic::truth;
-use crate::opened::opened;
+use crate::opened::{Known, opened};
 use crate::row::row;
 use crate::scope::{Scope, Seen, look_up, seen_value};
 use crate::terms::{couple, single, triple};
-use kid_term::{Binder, Def, Defs, Head, Literal, LogicOp, Op, Term};
+use kid_term::{Binder, Defs, Head, Literal, LogicOp, Op, Term};
 use kid_value::{Memory, Sort, Text, Value};
 use std::alloc::Global;
 
@@ -33,41 +33,46 @@ use std::alloc::Global;
 /// # Errors
 ///
 /// Fails only where memory is wanting.
+#[tactic(auto, using(crate::proofs::OpeningLemmas::all_known))]
 pub fn eval(alloc: Global, defs: &Defs, env: &Env, term: &Term) -> Result<Value, Memory>
     requires { StaysSmall defs.now env.now (plain_term term.now) }
     ensures { IfOk result (λ v. plain v ≡ value (calls_of defs.now) env.now (plain_term term.now)) }
 {
     let scope = env.scope();
-    value_of(alloc, defs.items(), &scope, term)
+    let known = Known {
+        defs,
+        count: defs.len(),
+    };
+    value_of(alloc, &known, &scope, term)
 }
 
 #[cycle(eval)]
 fn value_of<'a>(
     alloc: Global,
-    defs: &'a [Def],
+    known: &'a Known<'a>,
     scope: &'a Scope<'a>,
     term: &'a Term,
 ) -> Result<Value, Memory>
-    requires { small_in defs.now scope.now term.now ≡ true }
-    ensures { IfOk result (λ v. plain v ≡ value_in defs.now scope.now term.now) }
+    requires { small_in (known_of known.now) scope.now term.now ≡ true }
+    ensures { IfOk result (λ v. plain v ≡ value_in (known_of known.now) scope.now term.now) }
 {
     match term {
         Term::Var(x) => seen_value(&look_up(scope, x)).copy(alloc),
         Term::Lit(Literal::Int(n)) => Ok(Value::Int(*n)),
         Term::Lit(Literal::Bool(b)) => Ok(Value::Bool(*b)),
         Term::Lit(Literal::Tag(name)) => Ok(Value::Tag(name.copy(alloc)?)),
-        Term::App(Head::Op(op), args) => operate(alloc, defs, scope, *op, args.items()),
+        Term::App(Head::Op(op), args) => operate(alloc, known, scope, *op, args.items()),
         Term::App(Head::Call(f), args) => {
-            let values = see_all(alloc, defs, scope, args.items())?;
+            let values = see_all(alloc, known, scope, args.items())?;
             // Lent anew, as the values live less long than the definitions.
-            call(alloc, &*defs, f, &values)
+            call(alloc, &*known, f, &values)
         }
-        Term::App(Head::Cast(sort), args) => convert(alloc, defs, scope, sort, args.items()),
+        Term::App(Head::Cast(sort), args) => convert(alloc, known, scope, sort, args.items()),
         Term::Bind(binder, x, set, body) => {
-            let set = see(alloc, defs, scope, set.get())?;
+            let set = see(alloc, known, scope, set.get())?;
             bind(
                 alloc,
-                &*defs,
+                &*known,
                 &*scope,
                 *binder,
                 x,
@@ -83,27 +88,27 @@ fn value_of<'a>(
 #[cycle(eval)]
 fn operate<'a>(
     alloc: Global,
-    defs: &'a [Def],
+    known: &'a Known<'a>,
     scope: &'a Scope<'a>,
     op: Op,
     terms: &'a [Term],
 ) -> Result<Value, Memory>
-    requires { op_small_in defs.now scope.now op terms.now ≡ true }
-    ensures { IfOk result (λ v. plain v ≡ op_value op (values_in defs.now scope.now terms.now)) }
+    requires { op_small_in (known_of known.now) scope.now op terms.now ≡ true }
+    ensures { IfOk result (λ v. plain v ≡ op_value op (values_in (known_of known.now) scope.now terms.now)) }
 {
     if let (Op::Logic(LogicOp::And), Some((a, b))) = (op, couple(terms)) {
-        return both(alloc, defs, scope, a, b);
+        return both(alloc, known, scope, a, b);
     }
     if let Some((a, b)) = couple(terms) {
-        return binary(alloc, defs, scope, op, a, b);
+        return binary(alloc, known, scope, op, a, b);
     }
     if let Some(a) = single(terms) {
-        return unary(alloc, defs, scope, op, a);
+        return unary(alloc, known, scope, op, a);
     }
     if let (Op::Logic(LogicOp::If), Some((test, a, b))) = (op, triple(terms)) {
-        return choose(alloc, defs, scope, test, a, b);
+        return choose(alloc, known, scope, test, a, b);
     }
-    let values = see_all(alloc, defs, scope, terms)?;
+    let values = see_all(alloc, known, scope, terms)?;
     row(alloc, op, &values)
 }
 
@@ -111,17 +116,17 @@ fn operate<'a>(
 #[cycle(eval)]
 fn unary<'a>(
     alloc: Global,
-    defs: &'a [Def],
+    known: &'a Known<'a>,
     scope: &'a Scope<'a>,
     op: Op,
     a: &'a Term,
 ) -> Result<Value, Memory>
-    requires part { small_in defs.now scope.now a.now ≡ true }
-    requires sums { op_small op (value_in defs.now scope.now a.now ∷ []) ≡ true }
-    requires small { is_small (op_value op (value_in defs.now scope.now a.now ∷ [])) ≡ true }
-    ensures { IfOk result (λ v. plain v ≡ op_value op (value_in defs.now scope.now a.now ∷ [])) }
+    requires part { small_in (known_of known.now) scope.now a.now ≡ true }
+    requires sums { op_small op (value_in (known_of known.now) scope.now a.now ∷ []) ≡ true }
+    requires small { is_small (op_value op (value_in (known_of known.now) scope.now a.now ∷ [])) ≡ true }
+    ensures { IfOk result (λ v. plain v ≡ op_value op (value_in (known_of known.now) scope.now a.now ∷ [])) }
 {
-    let x = see(alloc, defs, scope, a)?;
+    let x = see(alloc, known, scope, a)?;
     row(alloc, op, &[x])
 }
 
@@ -129,20 +134,20 @@ fn unary<'a>(
 #[cycle(eval)]
 fn binary<'a>(
     alloc: Global,
-    defs: &'a [Def],
+    known: &'a Known<'a>,
     scope: &'a Scope<'a>,
     op: Op,
     a: &'a Term,
     b: &'a Term,
 ) -> Result<Value, Memory>
-    requires first { small_in defs.now scope.now a.now ≡ true }
-    requires second { small_in defs.now scope.now b.now ≡ true }
-    requires sums { op_small op (value_in defs.now scope.now a.now ∷ value_in defs.now scope.now b.now ∷ []) ≡ true }
-    requires small { is_small (op_value op (value_in defs.now scope.now a.now ∷ value_in defs.now scope.now b.now ∷ [])) ≡ true }
-    ensures { IfOk result (λ v. plain v ≡ op_value op (value_in defs.now scope.now a.now ∷ value_in defs.now scope.now b.now ∷ [])) }
+    requires first { small_in (known_of known.now) scope.now a.now ≡ true }
+    requires second { small_in (known_of known.now) scope.now b.now ≡ true }
+    requires sums { op_small op (value_in (known_of known.now) scope.now a.now ∷ value_in (known_of known.now) scope.now b.now ∷ []) ≡ true }
+    requires small { is_small (op_value op (value_in (known_of known.now) scope.now a.now ∷ value_in (known_of known.now) scope.now b.now ∷ [])) ≡ true }
+    ensures { IfOk result (λ v. plain v ≡ op_value op (value_in (known_of known.now) scope.now a.now ∷ value_in (known_of known.now) scope.now b.now ∷ [])) }
 {
-    let x = see(alloc, defs, scope, a)?;
-    let y = see(alloc, defs, scope, b)?;
+    let x = see(alloc, known, scope, a)?;
+    let y = see(alloc, known, scope, b)?;
     row(alloc, op, &[x, y])
 }
 
@@ -150,18 +155,18 @@ fn binary<'a>(
 #[cycle(eval)]
 fn convert<'a>(
     alloc: Global,
-    defs: &'a [Def],
+    known: &'a Known<'a>,
     scope: &'a Scope<'a>,
     sort: &Sort,
     terms: &'a [Term],
 ) -> Result<Value, Memory>
-    requires { all_small_in defs.now scope.now terms.now ≡ true }
-    ensures { IfOk result (λ v. plain v ≡ cast_value (plain_sort sort.now) (values_in defs.now scope.now terms.now)) }
+    requires { all_small_in (known_of known.now) scope.now terms.now ≡ true }
+    ensures { IfOk result (λ v. plain v ≡ cast_value (plain_sort sort.now) (values_in (known_of known.now) scope.now terms.now)) }
 {
     let Some(term) = single(terms) else {
         return Ok(Value::Bool(false));
     };
-    let seen = see(alloc, defs, scope, term)?;
+    let seen = see(alloc, known, scope, term)?;
     cast(alloc, sort, seen)
 }
 
@@ -170,20 +175,20 @@ fn convert<'a>(
 #[tactic(auto, using(crate::proofs::LogicLemmas::and_both))]
 fn both<'a>(
     alloc: Global,
-    defs: &'a [Def],
+    known: &'a Known<'a>,
     scope: &'a Scope<'a>,
     a: &'a Term,
     b: &'a Term,
 ) -> Result<Value, Memory>
-    requires first { small_in defs.now scope.now a.now ≡ true }
-    requires second { small_in defs.now scope.now b.now ≡ true }
-    ensures { IfOk result (λ v. plain v ≡ logic_value LogicOp.And (value_in defs.now scope.now a.now ∷ value_in defs.now scope.now b.now ∷ [])) }
+    requires first { small_in (known_of known.now) scope.now a.now ≡ true }
+    requires second { small_in (known_of known.now) scope.now b.now ≡ true }
+    ensures { IfOk result (λ v. plain v ≡ logic_value LogicOp.And (value_in (known_of known.now) scope.now a.now ∷ value_in (known_of known.now) scope.now b.now ∷ [])) }
 {
-    let first = value_of(alloc, defs, scope, a)?;
+    let first = value_of(alloc, known, scope, a)?;
     if !is_true(&first) {
         return Ok(Value::Bool(false));
     }
-    let second = value_of(alloc, defs, scope, b)?;
+    let second = value_of(alloc, known, scope, b)?;
     Ok(Value::Bool(is_true(&second)))
 }
 
@@ -191,21 +196,21 @@ fn both<'a>(
 #[cycle(eval)]
 fn choose<'a>(
     alloc: Global,
-    defs: &'a [Def],
+    known: &'a Known<'a>,
     scope: &'a Scope<'a>,
     test: &'a Term,
     a: &'a Term,
     b: &'a Term,
 ) -> Result<Value, Memory>
-    requires test { small_in defs.now scope.now test.now ≡ true }
-    requires first { small_in defs.now scope.now a.now ≡ true }
-    requires second { small_in defs.now scope.now b.now ≡ true }
-    ensures { IfOk result (λ v. plain v ≡ logic_value LogicOp.If (value_in defs.now scope.now test.now ∷ value_in defs.now scope.now a.now ∷ value_in defs.now scope.now b.now ∷ [])) }
+    requires test { small_in (known_of known.now) scope.now test.now ≡ true }
+    requires first { small_in (known_of known.now) scope.now a.now ≡ true }
+    requires second { small_in (known_of known.now) scope.now b.now ≡ true }
+    ensures { IfOk result (λ v. plain v ≡ logic_value LogicOp.If (value_in (known_of known.now) scope.now test.now ∷ value_in (known_of known.now) scope.now a.now ∷ value_in (known_of known.now) scope.now b.now ∷ [])) }
 {
-    let value = value_of(alloc, defs, scope, test)?;
+    let value = value_of(alloc, known, scope, test)?;
     match truth(&value) {
-        Some(true) => value_of(alloc, defs, scope, a),
-        Some(false) => value_of(alloc, defs, scope, b),
+        Some(true) => value_of(alloc, known, scope, a),
+        Some(false) => value_of(alloc, known, scope, b),
         None => Ok(Value::Bool(false)),
     }
 }
@@ -214,17 +219,17 @@ fn choose<'a>(
 #[cycle(eval)]
 fn see<'a>(
     alloc: Global,
-    defs: &'a [Def],
+    known: &'a Known<'a>,
     scope: &'a Scope<'a>,
     term: &'a Term,
 ) -> Result<Seen<'a>, Memory>
-    requires { small_in defs.now scope.now term.now ≡ true }
-    ensures { IfOk result (λ v. plain_seen v ≡ value_in defs.now scope.now term.now) }
+    requires { small_in (known_of known.now) scope.now term.now ≡ true }
+    ensures { IfOk result (λ v. plain_seen v ≡ value_in (known_of known.now) scope.now term.now) }
 {
     match term {
         Term::Var(x) => Ok(look_up(scope, x)),
         _ => {
-            let v = value_of(alloc, defs, scope, term)?;
+            let v = value_of(alloc, known, scope, term)?;
             Ok(Seen::Owned(v))
         }
     }
@@ -233,16 +238,16 @@ fn see<'a>(
 #[cycle(eval)]
 fn see_all<'a>(
     alloc: Global,
-    defs: &'a [Def],
+    known: &'a Known<'a>,
     scope: &'a Scope<'a>,
     terms: &'a [Term],
 ) -> Result<Vec<Seen<'a>>, Memory>
-    requires { all_small_in defs.now scope.now terms.now ≡ true }
-    ensures { IfOk result (λ v. map plain_seen v.items ≡ values_in defs.now scope.now terms.now) }
+    requires { all_small_in (known_of known.now) scope.now terms.now ≡ true }
+    ensures { IfOk result (λ v. map plain_seen v.items ≡ values_in (known_of known.now) scope.now terms.now) }
 {
     let mut values = Vec::new(alloc);
     for t in terms {
-        let seen = see(alloc, defs, scope, t)?;
+        let seen = see(alloc, known, scope, t)?;
         values.push(seen)?;
     }
     Ok(values)
@@ -252,21 +257,25 @@ fn see_all<'a>(
 #[cycle(eval)]
 fn call<'a>(
     alloc: Global,
-    defs: &'a [Def],
+    known: &'a Known<'a>,
     f: &'a Text,
     values: &'a [Seen<'a>],
 ) -> Result<Value, Memory>
-    requires { check_at f.now (checks_of (map plain_def defs.now)) (map plain_seen values.now) ≡ true }
-    ensures { IfOk result (λ v. plain v ≡ call_at f.now (calls_of (map plain_def defs.now)) (map plain_seen values.now)) }
+    requires { check_at f.now (checks_of (known_of known.now)) (map plain_seen values.now) ≡ true }
+    ensures { IfOk result (λ v. plain v ≡ call_at f.now (calls_of (known_of known.now)) (map plain_seen values.now)) }
 {
-    match opened(defs, f) {
+    match opened(known, f) {
         None => Ok(Value::Bool(false)),
-        Some((def, earlier)) => {
+        Some((def, place)) => {
             if values.len() != def.parameters.items().len() {
                 return Ok(Value::Bool(false));
             }
+            let earlier = Known {
+                defs: known.defs,
+                count: place,
+            };
             let scope = Scope::Parameters(def.parameters.items(), values);
-            value_of(alloc, earlier, &scope, &def.body)
+            value_of(alloc, &earlier, &scope, &def.body)
         }
     }
 }
@@ -275,37 +284,37 @@ fn call<'a>(
 #[cycle(eval)]
 fn bind<'a>(
     alloc: Global,
-    defs: &'a [Def],
+    known: &'a Known<'a>,
     scope: &'a Scope<'a>,
     binder: Binder,
     x: &'a Text,
     set: &'a Value,
     body: &'a Term,
 ) -> Result<Value, Memory>
-    requires each { list_all (small_with defs.now scope.now x.now body.now) (members_of (plain set.now)) ≡ true }
-    requires sums { binder_small binder (members_of (plain set.now)) (value_with defs.now scope.now x.now body.now) ≡ true }
-    ensures { IfOk result (λ v. plain v ≡ binder_value binder (members_of (plain set.now)) (value_with defs.now scope.now x.now body.now)) }
+    requires each { list_all (small_with (known_of known.now) scope.now x.now body.now) (members_of (plain set.now)) ≡ true }
+    requires sums { binder_small binder (members_of (plain set.now)) (value_with (known_of known.now) scope.now x.now body.now) ≡ true }
+    ensures { IfOk result (λ v. plain v ≡ binder_value binder (members_of (plain set.now)) (value_with (known_of known.now) scope.now x.now body.now)) }
 {
     let members = members(set);
     match binder {
         Binder::All => {
-            let fails = finds(alloc, defs, scope, x, members, body, false)?;
+            let fails = finds(alloc, known, scope, x, members, body, false)?;
             Ok(Value::Bool(!fails))
         }
         Binder::Some => {
-            let holds = finds(alloc, defs, scope, x, members, body, true)?;
+            let holds = finds(alloc, known, scope, x, members, body, true)?;
             Ok(Value::Bool(holds))
         }
         Binder::SetOf => {
-            let truths = values_over(alloc, defs, scope, x, members, body)?;
+            let truths = values_over(alloc, known, scope, x, members, body)?;
             kept(alloc, members, &truths)
         }
         Binder::Image => {
-            let values = values_over(alloc, defs, scope, x, members, body)?;
+            let values = values_over(alloc, known, scope, x, members, body)?;
             image(alloc, values)
         }
         Binder::SumOf => {
-            let values = values_over(alloc, defs, scope, x, members, body)?;
+            let values = values_over(alloc, known, scope, x, members, body)?;
             Ok(Value::Int(total(&values)))
         }
     }
@@ -315,19 +324,19 @@ fn bind<'a>(
 #[cycle(eval)]
 fn finds<'a>(
     alloc: Global,
-    defs: &'a [Def],
+    known: &'a Known<'a>,
     scope: &'a Scope<'a>,
     x: &'a Text,
     members: &'a [Value],
     body: &'a Term,
     truth: bool,
 ) -> Result<bool, Memory>
-    requires { list_all (small_with defs.now scope.now x.now body.now) (map plain members.now) ≡ true }
-    ensures { IfOk result (λ r. r ≡ is_found truth (map (λ v. truth_of (value_with defs.now scope.now x.now body.now v)) (map plain members.now))) }
+    requires { list_all (small_with (known_of known.now) scope.now x.now body.now) (map plain members.now) ≡ true }
+    ensures { IfOk result (λ r. r ≡ is_found truth (map (λ v. truth_of (value_with (known_of known.now) scope.now x.now body.now v)) (map plain members.now))) }
 {
     for v in members {
         let inner = Scope::More(x, v, scope);
-        let holds = value_of(alloc, defs, &inner, body)?;
+        let holds = value_of(alloc, known, &inner, body)?;
         if is_true(&holds) == truth {
             return Ok(true);
         }
@@ -339,19 +348,19 @@ fn finds<'a>(
 #[cycle(eval)]
 fn values_over<'a>(
     alloc: Global,
-    defs: &'a [Def],
+    known: &'a Known<'a>,
     scope: &'a Scope<'a>,
     x: &'a Text,
     members: &'a [Value],
     body: &'a Term,
 ) -> Result<Vec<Value>, Memory>
-    requires { list_all (small_with defs.now scope.now x.now body.now) (map plain members.now) ≡ true }
-    ensures { IfOk result (λ r. map plain r.items ≡ map (value_with defs.now scope.now x.now body.now) (map plain members.now)) }
+    requires { list_all (small_with (known_of known.now) scope.now x.now body.now) (map plain members.now) ≡ true }
+    ensures { IfOk result (λ r. map plain r.items ≡ map (value_with (known_of known.now) scope.now x.now body.now) (map plain members.now)) }
 {
     let mut values = Vec::new(alloc);
     for v in members {
         let inner = Scope::More(x, v, scope);
-        let value = value_of(alloc, defs, &inner, body)?;
+        let value = value_of(alloc, known, &inner, body)?;
         values.push(value)?;
     }
     Ok(values)

@@ -1,28 +1,32 @@
-//! The definition that a call opens.
-ghost use Rattle.std.specs.Prelude.{◌≡◌, ◌∷◌, ◌++◌, [], MatchOption, map};
+//! The definitions that a term sees, and the one that a call opens.
+ghost use Rattle.std.specs.Prelude.{◌≡◌, ◌<◌, MatchOption, get_or, length, take};
 ghost use Rattle.kid_term.specs.DefView.{plain_def};
+ghost use Rattle.kid_eval.specs.KnownView.{known_of};
 ghost use Rattle.kid_eval.specs.Opening.{Opens, IsUndefined};
 
-use kid_term::Def;
-use kid_term::substitute::is_same;
+use kid_term::{Def, Defs};
 use kid_value::Text;
 
-/// The last definition of the name, with those before it.
-pub fn opened<'a>(defs: &'a [Def], f: &Text) -> Option<(&'a Def, &'a [Def])>
-    ensures { MatchOption result (IsUndefined f.now (map plain_def defs.now)) (λ p. Opens f.now (map plain_def defs.now) (plain_def p.0.now) (map plain_def p.1.now)) }
+/// The first so many of definitions.
+#[derive(Clone, Copy)]
+pub struct Known<'a> {
+    pub defs: &'a Defs,
+    pub count: usize,
+}
+
+/// The last definition of the name among those that are known, with its place.
+pub fn opened<'a>(known: &'a Known<'a>, f: &Text) -> Option<(&'a Def, usize)>
+    ensures { MatchOption result (IsUndefined f.now (known_of known.now)) (λ p. Opens f.now (known_of known.now) (plain_def p.0.now) (take p.1 known.now.defs.now)) }
 {
-    match last_of(defs) {
+    match known.defs.place(known.count, f) {
+        Some(place) => Some((definition_at(known.defs.items(), place), place)),
         None => None,
-        Some((def, earlier)) => if is_same(f, &def.name) {
-            Some((def, earlier))
-        } else {
-            opened(earlier, f)
-        },
     }
 }
 
-fn last_of(defs: &[Def]) -> Option<(&Def, &[Def])>
-    ensures { MatchOption result (defs.now ≡ []) (λ p. defs.now ≡ p.1.now ++ p.0.now ∷ []) }
+fn definition_at(definitions: &[Def], place: usize) -> &Def
+    requires { place < length definitions.now }
+    ensures { result.now ≡ get_or definitions.now place result.now }
 {
-    defs.split_last()
+    &definitions[place]
 }

@@ -6,7 +6,7 @@ use Rattle.kid_term.specs.PlainTerm.{PlainTerm}
 use Rattle.kid_term.specs.Names.{Names}
 use Rattle.kid_term.specs.TermCode.{coded_name, coded_term, coded_terms}
 use Rattle.kid_term.specs.DefCode.{coded_names}
-use Rattle.kid_kernel.specs.PlainLaw.{PlainConclusion, equal, holds, PlainLaw}
+use Rattle.kid_term.specs.PlainLaw.{PlainConclusion, equal, holds, PlainLaw}
 
 abbrev pub Sides : Type 0
 Sides = (PlainTerm × PlainTerm) ⊎ PlainTerm

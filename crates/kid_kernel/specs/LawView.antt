@@ -1,6 +1,6 @@
 -- Laws and axioms of the program as plain data.
 use Rattle.kid_term.specs.TermView.{plain_term}
-use Rattle.kid_kernel.specs.PlainLaw.{PlainConclusion, equal, holds, PlainLaw}
+use Rattle.kid_term.specs.PlainLaw.{PlainConclusion, equal, holds, PlainLaw}
 use Rattle.kid_kernel.specs.declared.law.Conclusion.{Conclusion}
 use Rattle.kid_kernel.specs.declared.law.Conclusion.TheVariants.{Equal, Holds}
 use Rattle.kid_kernel.specs.declared.law.Law.{Law}

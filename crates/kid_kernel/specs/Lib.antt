@@ -1,4 +1,3 @@
 pub mod LawCode
 pub mod LawView
-pub mod PlainLaw
-pub mod PlainTheory
+pub mod TheoryView

@@ -46,7 +46,7 @@ pub struct Axioms {
 
 impl Model for Laws {
     ghost use Rattle.std.specs.Prelude.{List, map};
-    ghost use Rattle.kid_kernel.specs.PlainLaw.{PlainLaw};
+    ghost use Rattle.kid_term.specs.PlainLaw.{PlainLaw};
     ghost use Rattle.kid_kernel.specs.LawCode.{coded_laws};
 
     ghost Value = { List PlainLaw };
@@ -60,7 +60,7 @@ impl Model for Laws {
 
 impl Model for Axioms {
     ghost use Rattle.std.specs.Prelude.{List, map};
-    ghost use Rattle.kid_kernel.specs.PlainLaw.{PlainLaw};
+    ghost use Rattle.kid_term.specs.PlainLaw.{PlainLaw};
     ghost use Rattle.kid_kernel.specs.LawCode.{coded_laws};
 
     ghost Value = { List PlainLaw };

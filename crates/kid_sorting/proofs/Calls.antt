@@ -11,7 +11,7 @@ use Rattle.kid_term.specs.Names.{same_name, PlainDef, latest_over}
 use Rattle.kid_term.specs.Sorted.{Sorted, Unknown, Kind}
 use Rattle.kid_term.specs.Sorting.{fit_parameters, call_sort}
 use Rattle.kid_term.specs.declared.definition.Def.{Def}
-use Rattle.kid_sorting.specs.Definition.{first_named, definition_of}
+use Rattle.kid_term.specs.Definition.{first_named, definition_of}
 
 latest_over-append : (known ds : List PlainDef) (d : PlainDef) → latest_over known (ds ++ d ∷ []) ≡ d ∷ latest_over known ds
 latest_over-append known [] d = refl

@@ -1,5 +1,4 @@
 pub mod Answers
 pub mod Binders
 pub mod Declaring
-pub mod Definition
 pub mod ScopeView

@@ -1,7 +1,7 @@
 ghost use Rattle.std.specs.Prelude.{◌≡◌, map};
 ghost use Rattle.std.specs.Option.{option_map};
 ghost use Rattle.kid_term.specs.DefView.{plain_def};
-ghost use Rattle.kid_sorting.specs.Definition.{definition_of};
+ghost use Rattle.kid_term.specs.Definition.{definition_of};
 
 use kid_term::Def;
 use kid_term::substitute::is_same;

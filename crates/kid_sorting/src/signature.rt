@@ -3,9 +3,8 @@ ghost use Rattle.std.specs.Option.{option_map};
 ghost use Rattle.kid_value.specs.SortView.{plain_sort};
 ghost use Rattle.kid_term.specs.DefView.{plain_def};
 ghost use Rattle.kid_value.specs.NameView.{plain_name};
-ghost use Rattle.kid_sorting.specs.Definition.{definition_of};
+ghost use Rattle.kid_term.specs.Definition.{definition_of};
 
-use crate::find::find_definition;
 use kid_term::{Def, Defs};
 use kid_value::{Memory, Names, Sort, Text};
 use std::alloc::Global;
@@ -107,6 +106,6 @@ impl Signature {
     pub fn find_definition(&self, name: &Text) -> Option<&Def>
         ensures { option_map (λ d. plain_def d.now) result ≡ definition_of name.now self.now.definitions }
     {
-        find_definition(self.definitions.items(), name)
+        self.definitions.find(name)
     }
 }

@@ -1,27 +1,17 @@
 -- The value of a term depends on the values of its free names alone.
-use Rattle.std.proofs.Common.{◌≡◌, ℕ, Bool, true, false, List, [], ◌∷◌, refl, sym, ap, ◌∙◌, cond, subst, arith, map}
+use Rattle.std.proofs.Common.{◌≡◌, ℕ, Bool, true, false, List, [], ◌∷◌, refl, ap, arith}
 use Rattle.std.specs.Prelude.{not, ◌&&◌, ◌||◌, nat_eq}
 use Rattle.std.proofs.lemmas.Bool.Decides.{nat_tests}
 use Rattle.kid_value.specs.PlainValue.{PlainValue}
 use Rattle.kid_value.specs.Rows.Parts.{members_of}
-use Rattle.kid_term.specs.PlainTerm.{PlainTerm, var, number, truth, tag, app, bind, PlainTerms, no_term, term, term_row}
-use Rattle.kid_term.specs.TermView.{plain_term}
-use Rattle.kid_term.specs.declared.Term.{Term}
-use Rattle.kid_term.specs.declared.operator.Binder.{Binder}
+use Rattle.kid_value.proofs.NameLemmas.{bytes_itself, same_bytes}
+use Rattle.kid_term.specs.PlainTerm.{PlainTerm, var, number, truth, tag, app, bind, PlainTerms, no_term, term}
 use Rattle.kid_term.specs.Names.{same_name}
 use Rattle.kid_term.specs.Eval.{Env, Calls, value_at, head_value, binder_value, eval, evals}
-use Rattle.kid_term.specs.Substitution.{mentions, some_mentions, replaced, replaced_in, captures, some_capture}
+use Rattle.kid_term.specs.Substitution.{mentions, some_mentions}
 
 pub same_name-itself : (x : List ℕ) → same_name x x ≡ true
-same_name-itself [] = refl
-same_name-itself (n ∷ x) = rw (nat_eq-itself n) (same_name-itself x)
-  where
-    nat_eq-itself : (n : ℕ) → nat_eq n n ≡ true
-    nat_eq-itself n = grind (arith, nat_tests)
-
-and_parts : (b c : Bool) → (b && c) ≡ true → (b ≡ true) × (c ≡ true)
-and_parts true c p = (refl, p)
-and_parts false c p = cc
+same_name-itself x = bytes_itself x
 
 pub or_none : (b c : Bool) → (b || c) ≡ false → (b ≡ false) × (c ≡ false)
 or_none true c p = cc
@@ -35,17 +25,7 @@ or_right true c p = refl
 or_right false c p = p
 
 pub same_name-true : (x y : List ℕ) → same_name x y ≡ true → x ≡ y
-same_name-true [] [] p = refl
-same_name-true [] (n ∷ y) p = cc
-same_name-true (m ∷ x) [] p = cc
-same_name-true (m ∷ x) (n ∷ y) p =
-    let q = and_parts (nat_eq m n) (same_name x y) p in
-    let e : m ≡ n = equal_numbers m n q.0 in
-    let f : x ≡ y = same_name-true x y q.1 in
-    λ i. e i ∷ f i
-  where
-    equal_numbers : (m n : ℕ) → nat_eq m n ≡ true → m ≡ n
-    equal_numbers m n p = grind (arith, nat_tests)
+same_name-true x y p = same_bytes x y p
 
 pub same_name-comm : (x y : List ℕ) → same_name x y ≡ same_name y x
 same_name-comm [] [] = refl

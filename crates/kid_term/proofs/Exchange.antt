@@ -20,7 +20,7 @@ use Rattle.kid_value.specs.Rows.Logic as row
 use Rattle.kid_term.specs.LogicRows.{logic_value}
 use Rattle.kid_term.specs.Eval.{Env, Calls, eval, evals, head_value, binder_value, calls_of}
 use Rattle.kid_term.specs.Small.{Checks, checks_of}
-use Rattle.kid_term.specs.Contexts.{first_of, Guard, SameAt, SameAmong}
+use Rattle.kid_term.specs.Contexts.{first_or_false, Guard, SameAt, SameAmong}
 use Rattle.kid_term.specs.Places.{put_at, put_among}
 use Rattle.kid_term.specs.Sorted.{◌>>=◌}
 use Rattle.kid_term.specs.Sorting.{head_sort, least_sort, least_sorts}
@@ -109,7 +109,7 @@ same_element a b p = cc
 -- two truth values of which the first is false
 implies_true : (v : PlainValue) (vs : List PlainValue) (p q : Bool) → truth_of v ≡ false → v ∷ vs ≡ bool p ∷ bool q ∷ [] → logic_value Implies (v ∷ vs) ≡ bool true
 implies_true v vs p q e f =
-    let g : p ≡ false = sym (ap (λ l. truth_of (first_of l)) f) ∙ e in ap (logic_value Implies) f ∙ ap (λ z. bool (not z || q)) g
+    let g : p ≡ false = sym (ap (λ l. truth_of (first_or_false l)) f) ∙ e in ap (logic_value Implies) f ∙ ap (λ z. bool (not z || q)) g
 
 choose_at_false : (v x y z : PlainValue) → truth_of v ≡ false → row.choose v x z ≡ row.choose v y z
 choose_at_false (bool true) x y z e = cc

@@ -8,6 +8,7 @@ pub mod EvalLemmas
 pub mod Exchange
 pub mod Inversions
 pub mod JoinedSorts
+pub mod LatestLemmas
 pub mod LogicSound
 pub mod MapSound
 pub mod Members
@@ -22,6 +23,7 @@ pub mod Ranks
 pub mod RenameLemmas
 pub mod ReplaceLemmas
 pub mod RowSound
+pub mod Scopes
 pub mod SeqRanks
 pub mod SeqSound
 pub mod SetRanks

@@ -1,4 +1,4 @@
--- The term of a value has that value and no free name.
+-- The term of a value has that value, no free name, and no operator on words or rows.
 use Rattle.std.proofs.Common.{◌≡◌, ℕ, ◌+◌, ◌<◌, ◌≤◌, suc, Bool, false, List, [], ◌∷◌, ◌++◌, length, get_or, drop, map, refl, sym, ap, ◌∙◌, arith, subst, add-one, drop-cons}
 use Rattle.std.specs.Prelude.{◌||◌, IfOk, Result, Ok, Err}
 use Rattle.std.proofs.lemmas.List.{append_assoc, append-nil, drop_all}
@@ -20,6 +20,7 @@ use Rattle.kid_term.specs.Quote.{empty_map, quote, quotes, all_put}
 use Rattle.kid_term.specs.Quote as spec
 use Rattle.kid_term.specs.Substitution.{mentions, some_mentions}
 use Rattle.kid_term.specs.TermView.{plain_term}
+use Rattle.kid_term.specs.WordTerms.{holds_word_operator, some_hold_word_operator}
 use Rattle.kid_term.specs.declared.Term.{Term}
 
 none_of : {b c : Bool} → b ≡ false → c ≡ false → (b || c) ≡ false
@@ -90,6 +91,25 @@ module _ (x : List ℕ) where
     mentions-all_put : (m : PlainTerm) (es : PlainEntries) → mentions x m ≡ false → mentions x (all_put m es) ≡ false
     mentions-all_put m no_entry p = p
     mentions-all_put m (entry k v es) p = mentions-all_put (spec.put m (quote k) (quote v)) es (none_of p (none_of (mentions-quote k) (none_of (mentions-quote v) refl)))
+
+-- no operator on words or rows stands in it
+mutual
+  pub wordless-quote : (v : PlainValue) → holds_word_operator (quote v) ≡ false
+  wordless-quote (int n) = refl
+  wordless-quote (bool b) = refl
+  wordless-quote (pair a b) = none_of (wordless-quote a) (none_of (wordless-quote b) refl)
+  wordless-quote (set vs) = wordless-quotes vs
+  wordless-quote (seq vs) = wordless-quotes vs
+  wordless-quote (map_of es) = wordless-all_put empty_map es refl
+  wordless-quote (tag n) = refl
+
+  wordless-quotes : (vs : PlainValues) → some_hold_word_operator (quotes vs) ≡ false
+  wordless-quotes none = refl
+  wordless-quotes (more v vs) = none_of (wordless-quote v) (wordless-quotes vs)
+
+  wordless-all_put : (m : PlainTerm) (es : PlainEntries) → holds_word_operator m ≡ false → holds_word_operator (all_put m es) ≡ false
+  wordless-all_put m no_entry p = p
+  wordless-all_put m (entry k v es) p = wordless-all_put (spec.put m (quote k) (quote v)) es (none_of p (none_of (wordless-quote k) (none_of (wordless-quote v) refl)))
 
 -- the terms of a row of values
 pub quotes-row : (vs : List Value) → term_row (map (λ v. quote (plain v)) vs) ≡ quotes (row (map plain vs))

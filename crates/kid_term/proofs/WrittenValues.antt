@@ -4,7 +4,7 @@ use Rattle.kid_value.specs.PlainValue.{PlainValue, int}
 use Rattle.kid_value.specs.PlainSort.{PlainSort}
 use Rattle.kid_term.specs.PlainTerm.{PlainTerm, var, number, truth, tag, app, bind, PlainTerms, no_term, term}
 use Rattle.kid_term.specs.Eval.{Env, Calls, eval, evals}
-use Rattle.kid_term.specs.Contexts.{first_of}
+use Rattle.kid_term.specs.Contexts.{first_or_false}
 use Rattle.kid_term.specs.Sorted.{Fault, Sorted}
 use Rattle.kid_term.specs.WordSorts.{given}
 use Rattle.kid_term.specs.Written.{number_in, Numbers, first_number, written}
@@ -32,7 +32,7 @@ module _ (calls : Calls) (env : Env) where
 
   first_value : (ts : PlainTerms) (n : ℤ) (v : PlainValue) (rest : List PlainValue) → first_number ts ≡ Some n → evals calls env ts ≡ v ∷ rest → v ≡ int n
   first_value no_term n v rest p e = cc
-  first_value (term t ts) n v rest p e = sym (ap first_of e) ∙ number_value t n p
+  first_value (term t ts) n v rest p e = sym (ap first_or_false e) ∙ number_value t n p
 
   second_value : (ts : PlainTerms) (n : ℤ) (u v : PlainValue) (rest : List PlainValue) → (written ts).1 ≡ Some n → evals calls env ts ≡ u ∷ v ∷ rest → v ≡ int n
   second_value no_term n u v rest p e = cc

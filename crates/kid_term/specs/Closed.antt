@@ -1,16 +1,12 @@
 -- Terms without free names.
-use Rattle.std.specs.Prelude.{ℕ, Bool, true, false, ◌&&◌, ◌||◌, List, [], ◌∷◌}
+use Rattle.std.specs.Prelude.{ℕ, Bool, true, ◌&&◌, List, [], ◌∷◌}
+use Rattle.kid_value.specs.NameSet.{is_among}
 use Rattle.kid_term.specs.PlainTerm.{PlainTerm, var, number, truth, tag, app, bind, PlainTerms, no_term, term}
-use Rattle.kid_term.specs.Names.{same_name}
-
-abbrev pub is_one_of : List ℕ → List (List ℕ) → Bool
-is_one_of x [] = false
-is_one_of x (y ∷ ys) = same_name x y || is_one_of x ys
 
 -- whether each free name of the term is among the names
 abbrev mutual
   pub is_over : List (List ℕ) → PlainTerm → Bool
-  is_over xs (var y) = is_one_of y xs
+  is_over xs (var y) = is_among y xs
   is_over xs (number n) = true
   is_over xs (truth b) = true
   is_over xs (tag n) = true

@@ -8,16 +8,16 @@ use Rattle.kid_term.specs.declared.operator.Op.TheVariants.{Logic}
 use Rattle.kid_term.specs.declared.operator.LogicOp.TheVariants.{And, Implies, If}
 use Rattle.kid_term.specs.Eval.{Env, Calls, eval, evals}
 
-abbrev pub first_of : List PlainValue → PlainValue
-first_of [] = bool false
-first_of (v ∷ vs) = v
+abbrev pub first_or_false : List PlainValue → PlainValue
+first_or_false [] = bool false
+first_or_false (v ∷ vs) = v
 
 -- what is true of the values of the children before the child at i, wherever that child's value counts
 abbrev pub Guard : PlainHead → ℕ → List PlainValue → Type 0
-Guard (op (Logic And)) (suc zero) vs = truth_of (first_of vs) ≡ true
-Guard (op (Logic Implies)) (suc zero) vs = truth_of (first_of vs) ≡ true
-Guard (op (Logic If)) (suc zero) vs = truth_of (first_of vs) ≡ true
-Guard (op (Logic If)) (suc (suc zero)) vs = truth_of (first_of vs) ≡ false
+Guard (op (Logic And)) (suc zero) vs = truth_of (first_or_false vs) ≡ true
+Guard (op (Logic Implies)) (suc zero) vs = truth_of (first_or_false vs) ≡ true
+Guard (op (Logic If)) (suc zero) vs = truth_of (first_or_false vs) ≡ true
+Guard (op (Logic If)) (suc (suc zero)) vs = truth_of (first_or_false vs) ≡ false
 Guard h i vs = Unit {0}
 
 module _ (calls : Calls) where

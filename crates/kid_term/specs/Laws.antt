@@ -17,6 +17,7 @@ use Rattle.kid_term.specs.Answer.{AllAnswers, Answer}
 use Rattle.kid_term.specs.Substitution.{mentions, replaced, captures}
 use Rattle.kid_term.specs.Simultaneous.{substituted, captures_any}
 use Rattle.kid_term.specs.Closed.{is_closed}
+use Rattle.kid_term.specs.WordTerms.{holds_word_operator}
 
 -- over sound definitions and an environment that fits, a sorted term has a value of its sort, and every integer on the way is small
 pub record IsEvaluated (defs : List PlainDef) (env : Env) (t : PlainTerm) (s : PlainSort) : Type 0 where
@@ -28,10 +29,11 @@ SortsAreKept =
     (defs : List PlainDef) (names : Names) (env : Env) (t : PlainTerm) (s : PlainSort)
     → AreSound defs → AreAllowed names → Fits names env → sort_of defs names t ≡ Ok s → IsEvaluated defs env t s
 
--- the term of a value has that value wherever it stands, since it has no free name
+-- the term of a value has that value wherever it stands, since it has no free name, and is written without operators on words and rows
 pub record IsQuoted (v : PlainValue) : Type 0 where
   pub value : (calls : Calls) (env : Env) → eval calls env (quote v) ≡ v
-  pub closed : (x : List ℕ) → mentions x (quote v) ≡ false
+  pub closed : is_closed (quote v) ≡ true
+  pub wordless : holds_word_operator (quote v) ≡ false
 
 abbrev pub QuotesAreTheirValues : Type 0
 QuotesAreTheirValues = (v : PlainValue) → IsCanonical v → IsQuoted v

@@ -7,8 +7,11 @@ pub mod Contexts
 pub mod Cost
 pub mod DefCode
 pub mod DefView
+pub mod Definition
 pub mod Eval
 pub mod Fitting
+pub mod Good
+pub mod Latest
 pub mod Laws
 pub mod LogicRows
 pub mod LogicSorts
@@ -20,9 +23,11 @@ pub mod NumberSorts
 pub mod PairRows
 pub mod PairSorts
 pub mod Places
+pub mod PlainLaw
 pub mod PlainSignature
 pub mod PlainSpec
 pub mod PlainTerm
+pub mod PlainTheory
 pub mod Quote
 pub mod Renaming
 pub mod Replacing
@@ -40,6 +45,7 @@ pub mod SumSort
 pub mod TermCode
 pub mod TermFalls
 pub mod TermView
+pub mod Truths
 pub mod WordRows
 pub mod WordSorts
 pub mod WordTerms

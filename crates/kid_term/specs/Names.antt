@@ -1,14 +1,12 @@
 -- Names, names with their sorts, and definitions.
-use Rattle.std.specs.Prelude.{ℕ, Bool, true, false, ◌&&◌, ◌||◌, List, [], ◌∷◌, nat_eq}
+use Rattle.std.specs.Prelude.{ℕ, Bool, false, ◌||◌, List, [], ◌∷◌}
+use Rattle.std.specs.Str.{bytes_eq}
 use Rattle.kid_value.specs.PlainSort.{PlainSort}
 use Rattle.kid_term.specs.PlainTerm.{PlainTerm}
 
 -- whether two names are one
 abbrev pub same_name : List ℕ → List ℕ → Bool
-same_name [] [] = true
-same_name [] (n ∷ y) = false
-same_name (m ∷ x) [] = false
-same_name (m ∷ x) (n ∷ y) = nat_eq m n && same_name x y
+same_name = bytes_eq
 
 -- names with their sorts, the innermost first
 abbrev pub Names : Type 0

@@ -1,5 +1,6 @@
 //! Terms without free names.
 ghost use Rattle.std.specs.Prelude.{◌≡◌, map};
+ghost use Rattle.kid_value.specs.NameSet.{is_among};
 ghost use Rattle.kid_term.specs.TermView.{plain_term};
 ghost use Rattle.kid_term.specs.PlainTerm.{term_row};
 ghost use Rattle.kid_term.specs.Closed as spec;
@@ -25,12 +26,13 @@ impl Term {
     }
 }
 
-fn is_one_of<'a>(x: &Text, bound: &'a Bound<'a>) -> bool
-    ensures { result ≡ spec.is_one_of x.now (names_of bound.now) }
+/// Whether the name is one of a binder above.
+fn is_bound<'a>(x: &Text, bound: &'a Bound<'a>) -> bool
+    ensures { result ≡ is_among x.now (names_of bound.now) }
 {
     match *bound {
         Bound::Nothing => false,
-        Bound::More(y, rest) => is_same(x, y) || is_one_of(x, rest),
+        Bound::More(y, rest) => is_same(x, y) || is_bound(x, rest),
     }
 }
 
@@ -40,7 +42,7 @@ fn is_over<'a>(bound: &'a Bound<'a>, term: &'a Term) -> bool
     ensures { result ≡ spec.is_over (names_of bound.now) (plain_term term.now) }
 {
     match term {
-        Term::Var(x) => is_one_of(x, bound),
+        Term::Var(x) => is_bound(x, bound),
         Term::Lit(_) => true,
         Term::App(_, args) => all_over(bound, &args.items),
         Term::Bind(_, y, set, body) => {

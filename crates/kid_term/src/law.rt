@@ -7,7 +7,7 @@ pub fn sorts_are_kept()
     ensures { SortsAreKept }
 {}
 
-/// The term of a value has that value, and no free name.
+/// The term of a value has that value, no free name, and no operator on words or rows.
 pub fn quotes_are_their_values()
     ensures { QuotesAreTheirValues }
 {}

@@ -18,7 +18,7 @@ use Rattle.kid_codec.specs.TermSpelling.{term_spellings, is_spelled_term, are_sp
 use Rattle.kid_codec.proofs.Found.{same_some, mapped, both_some, bind_some}
 use Rattle.kid_codec.proofs.ShapeTold.{form_told, couple_told, quadruple_told}
 use Rattle.kid_codec.proofs.TermTold.{TermsTold}
-use Rattle.kid_kernel.specs.PlainLaw.{PlainConclusion, equal, holds, PlainLaw}
+use Rattle.kid_term.specs.PlainLaw.{PlainConclusion, equal, holds, PlainLaw}
 use Rattle.kid_theory.specs.Forms.{is_unbound, is_condition, have_common, is_sorted_conclusion, is_sorted_law, is_named_law, judged_law, axiom_form}
 use Rattle.kid_theory.specs.IsTheory.{is_spelled_conclusion, is_spelled_axiom}
 use Rattle.kid_theory.specs.Judged.{Judged, tested}

@@ -4,7 +4,7 @@ use Rattle.kid_sexp.specs.Plain.{Plain, Plains, none, more, forest_len}
 use Rattle.kid_value.specs.PlainSort.{PlainSort}
 use Rattle.kid_term.specs.PlainSpec.{is_wanted}
 use Rattle.kid_term.specs.PlainTerm.{PlainTerm}
-use Rattle.kid_kernel.specs.PlainTheory.{PlainTheory}
+use Rattle.kid_term.specs.PlainTheory.{PlainTheory}
 use Rattle.kid_theory.specs.Forms.{first_form}
 use Rattle.kid_theory.specs.Reading.{Read, Front, theory_with, at_end, with_first, after_relation}
 use Rattle.kid_theory.specs.Spelling.{first_before}

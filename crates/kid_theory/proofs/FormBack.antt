@@ -16,7 +16,7 @@ use Rattle.kid_codec.specs.Name.{is_name}
 use Rattle.kid_codec.specs.SortSpelling.{headed}
 use Rattle.kid_codec.specs.TermSpelling.{term_spelling, is_spelled_term}
 use Rattle.kid_codec.proofs.Numbers.{number_of-decimal}
-use Rattle.kid_kernel.specs.PlainLaw.{PlainLaw}
+use Rattle.kid_term.specs.PlainLaw.{PlainLaw}
 use Rattle.kid_theory.specs.Ahead.{calls_ahead}
 use Rattle.kid_theory.specs.Formed.{is_wordless, is_wordless_definition, is_wordless_law, names_of, is_formed_definition}
 use Rattle.kid_theory.specs.Forms.{title_form, judged_definition, definition_form, judged_name, input_form, output_form, condition_form, counted, first_form, is_sorted_law, is_named_law, judged_law, axiom_form}

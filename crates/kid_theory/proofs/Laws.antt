@@ -3,7 +3,7 @@ use Rattle.std.proofs.Common.{ℕ, List, Result, Ok, Err, subst}
 use Rattle.std.specs.Prelude.{IfOk}
 use Rattle.kid_sexp.specs.Spells.{Spells}
 use Rattle.kid_sexp.proofs.Spelled.{reading-spelled}
-use Rattle.kid_kernel.specs.PlainTheory.{plain_theory}
+use Rattle.kid_kernel.specs.TheoryView.{plain_theory}
 use Rattle.kid_kernel.specs.declared.theory.Theory.{Theory}
 use Rattle.kid_theory.specs.Answers.{Reads}
 use Rattle.kid_theory.specs.IsTheory.{IsTheory, ReadTheories}

@@ -17,8 +17,8 @@ use Rattle.kid_sorting.specs.Declaring.{are_allowed}
 use Rattle.kid_codec.specs.DeclaredSpelling.{named_spelling, definition_spelling, definitions_before, inputs_before, is_spelled_name, is_spelled_definition}
 use Rattle.kid_codec.specs.SortSpelling.{headed}
 use Rattle.kid_codec.specs.TermSpelling.{term_spelling, is_spelled_term}
-use Rattle.kid_kernel.specs.PlainLaw.{PlainLaw}
-use Rattle.kid_kernel.specs.PlainTheory.{PlainTheory}
+use Rattle.kid_term.specs.PlainLaw.{PlainLaw}
+use Rattle.kid_term.specs.PlainTheory.{PlainTheory}
 use Rattle.kid_theory.specs.Formed.{is_wordless, is_wordless_definition, is_wordless_law, is_wordless_theory, names_of, is_formed_definition, are_formed_definitions, are_named_before, names_before_axioms, IsFormed, FormedTheoriesAreRead}
 use Rattle.kid_theory.specs.Forms.{title_form, definition_form, input_form, output_form, condition_form, first_form, is_named_law, is_sorted_law, axiom_form}
 use Rattle.kid_theory.specs.IsTheory.{is_spelled_theory, is_spelled_axiom}

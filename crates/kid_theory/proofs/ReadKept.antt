@@ -15,8 +15,8 @@ use Rattle.kid_term.specs.Names.{Names, PlainDef}
 use Rattle.kid_term.specs.PlainTerm.{PlainTerm}
 use Rattle.kid_sorting.specs.Declaring.{are_allowed, is_truth}
 use Rattle.kid_codec.specs.DeclaredSpelling.{definition_spelling, definitions_before, inputs_before}
-use Rattle.kid_kernel.specs.PlainLaw.{PlainLaw}
-use Rattle.kid_kernel.specs.PlainTheory.{PlainTheory}
+use Rattle.kid_term.specs.PlainLaw.{PlainLaw}
+use Rattle.kid_term.specs.PlainTheory.{PlainTheory}
 use Rattle.kid_theory.specs.Formed.{is_wordless, is_wordless_definition, is_wordless_law, names_of, is_formed_definition, are_formed_definitions, are_named_before, is_wordless_theory, IsFormed, ReadTheoriesAreFormed}
 use Rattle.kid_theory.specs.Forms.{begins, title_form, definition_form, input_form, output_form, condition_form, is_named_law, axiom_form}
 use Rattle.kid_theory.specs.IsTheory.{IsTheory}

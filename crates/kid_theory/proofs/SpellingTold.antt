@@ -9,8 +9,8 @@ use Rattle.kid_codec.specs.DeclaredSpelling.{named_spelling, definition_spelling
 use Rattle.kid_codec.specs.Name.{is_name}
 use Rattle.kid_codec.specs.SortSpelling.{headed}
 use Rattle.kid_codec.specs.TermSpelling.{term_spelling}
-use Rattle.kid_kernel.specs.PlainLaw.{PlainLaw}
-use Rattle.kid_kernel.specs.PlainTheory.{PlainTheory}
+use Rattle.kid_term.specs.PlainLaw.{PlainLaw}
+use Rattle.kid_term.specs.PlainTheory.{PlainTheory}
 use Rattle.kid_theory.specs.Forms.{begins, title_form, definition_form, input_form, output_form, condition_form, axiom_form}
 use Rattle.kid_theory.specs.Judged.{Judged}
 use Rattle.kid_theory.specs.Reading.{Read, ◌>>=◌, at, Front, with_axiom, theory_with, front_of, after_relation, after_output, after_condition, after_inputs, after_definitions, theory_from}

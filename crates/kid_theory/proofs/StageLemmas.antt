@@ -13,7 +13,8 @@ use Rattle.kid_term.specs.TermView.{plain_term}
 use Rattle.kid_term.specs.declared.Term.{Term}
 use Rattle.kid_term.specs.declared.definition.Def.{Def}
 use Rattle.kid_kernel.specs.LawView.{plain_axiom}
-use Rattle.kid_kernel.specs.PlainTheory.{PlainTheory, plain_theory}
+use Rattle.kid_term.specs.PlainTheory.{PlainTheory}
+use Rattle.kid_kernel.specs.TheoryView.{plain_theory}
 use Rattle.kid_kernel.specs.declared.law.Axiom.{Axiom}
 use Rattle.kid_kernel.specs.declared.theory.Theory.{Theory}
 use Rattle.kid_theory.specs.Judged.{Judged}

@@ -16,8 +16,8 @@ use Rattle.kid_sorting.specs.Declaring.{are_allowed, is_sorted_definition}
 use Rattle.kid_sorting.proofs.SoundDefinitions.{names-allowed, sound-more}
 use Rattle.kid_codec.specs.DeclaredSpelling.{is_spelled_name, is_spelled_definition}
 use Rattle.kid_codec.specs.TermSpelling.{is_spelled_term}
-use Rattle.kid_kernel.specs.PlainLaw.{PlainLaw}
-use Rattle.kid_kernel.specs.PlainTheory.{PlainTheory}
+use Rattle.kid_term.specs.PlainLaw.{PlainLaw}
+use Rattle.kid_term.specs.PlainTheory.{PlainTheory}
 use Rattle.kid_theory.specs.Forms.{begins, title_form, definition_form, input_form, output_form, condition_form, is_sorted_law, axiom_form}
 use Rattle.kid_theory.specs.IsTheory.{is_spelled_axiom, IsTheory}
 use Rattle.kid_theory.specs.Judged.{Judged}

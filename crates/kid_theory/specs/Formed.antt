@@ -12,8 +12,8 @@ use Rattle.kid_term.specs.WordTerms.{holds_word_operator}
 use Rattle.kid_sorting.specs.Declaring.{are_allowed, is_truth, is_sorted_definition, is_shallow}
 use Rattle.kid_codec.specs.DeclaredSpelling.{definitions_before, inputs_before}
 use Rattle.kid_codec.specs.Name.{is_name}
-use Rattle.kid_kernel.specs.PlainLaw.{PlainConclusion, equal, holds, PlainLaw}
-use Rattle.kid_kernel.specs.PlainTheory.{PlainTheory}
+use Rattle.kid_term.specs.PlainLaw.{PlainConclusion, equal, holds, PlainLaw}
+use Rattle.kid_term.specs.PlainTheory.{PlainTheory}
 use Rattle.kid_theory.specs.Ahead.{calls_ahead}
 use Rattle.kid_theory.specs.Forms.{is_sorted_law, is_named_law}
 use Rattle.kid_theory.specs.IsTheory.{is_spelled_theory, is_spelled_axiom}

@@ -13,7 +13,7 @@ use Rattle.kid_term.specs.Sorting.{sort_of}
 use Rattle.kid_sorting.specs.Declaring.{are_allowed, is_truth, is_sorted_definition, is_shallow}
 use Rattle.kid_codec.specs.Name.{is_name}
 pub use Rattle.kid_codec.specs.Shape.{begins}
-use Rattle.kid_kernel.specs.PlainLaw.{PlainConclusion, equal, holds, PlainLaw}
+use Rattle.kid_term.specs.PlainLaw.{PlainConclusion, equal, holds, PlainLaw}
 use Rattle.kid_theory.specs.Judged.{Judged, ◌>>=◌, shaped, tested}
 use Rattle.kid_theory.specs.Taken.{Taken, is_free, are_free}
 use Rattle.kid_theory.specs.Ahead.{calls_ahead}

@@ -11,8 +11,8 @@ use Rattle.kid_term.specs.Fitting.{AreAllowed, AreSound}
 use Rattle.kid_codec.specs.TermSpelling.{is_spelled_term, are_spelled_terms}
 use Rattle.kid_codec.specs.Name.{is_name}
 use Rattle.kid_codec.specs.DeclaredSpelling.{is_spelled_name, is_spelled_definition}
-use Rattle.kid_kernel.specs.PlainLaw.{PlainConclusion, equal, holds, PlainLaw}
-use Rattle.kid_kernel.specs.PlainTheory.{PlainTheory}
+use Rattle.kid_term.specs.PlainLaw.{PlainConclusion, equal, holds, PlainLaw}
+use Rattle.kid_term.specs.PlainTheory.{PlainTheory}
 use Rattle.kid_theory.specs.Forms.{is_sorted_law}
 use Rattle.kid_theory.specs.Reading.{theory_reading}
 

@@ -10,7 +10,7 @@ use Rattle.kid_codec.specs.Reading.{◌>>=◌}
 use Rattle.kid_codec.specs.Shape.{form, single, couple, quadruple}
 use Rattle.kid_codec.specs.SortSpelling.{spelled_number, spelled_sort}
 use Rattle.kid_codec.specs.TermSpelling.{spelled_term}
-use Rattle.kid_kernel.specs.PlainLaw.{PlainConclusion, equal, holds, PlainLaw}
+use Rattle.kid_term.specs.PlainLaw.{PlainConclusion, equal, holds, PlainLaw}
 
 -- a word
 abbrev pub word_of : Plain → Option (List ℕ)

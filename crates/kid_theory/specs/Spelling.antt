@@ -7,8 +7,8 @@ use Rattle.kid_codec.specs.DeclaredSpelling.{named_spelling, names_spelling, def
 use Rattle.kid_codec.specs.Name.{is_name}
 use Rattle.kid_codec.specs.SortSpelling.{headed, number_tree}
 use Rattle.kid_codec.specs.TermSpelling.{term_spelling, term_spellings}
-use Rattle.kid_kernel.specs.PlainLaw.{PlainConclusion, equal, holds, PlainLaw}
-use Rattle.kid_kernel.specs.PlainTheory.{PlainTheory}
+use Rattle.kid_term.specs.PlainLaw.{PlainConclusion, equal, holds, PlainLaw}
+use Rattle.kid_term.specs.PlainTheory.{PlainTheory}
 use Rattle.kid_theory.specs.Reading.{theory_reading}
 
 abbrev pub conclusion_spelling : PlainConclusion → Plain

@@ -7,7 +7,7 @@ ghost use Rattle.kid_term.specs.CallDepth.{depths_of};
 ghost use Rattle.kid_term.specs.DefView.{plain_def};
 ghost use Rattle.kid_term.specs.TermView.{plain_term};
 ghost use Rattle.kid_kernel.specs.LawView.{plain_axiom};
-ghost use Rattle.kid_kernel.specs.PlainTheory.{plain_theory};
+ghost use Rattle.kid_kernel.specs.TheoryView.{plain_theory};
 ghost use Rattle.kid_theory.specs.Answers.{Judges, Reads, fault_at, placed, located};
 ghost use Rattle.kid_theory.specs.Forms.{condition_form as condition_form_of, output_form as output_form_of, axiom_form as axiom_form_of, definition_form as definition_form_of};
 ghost use Rattle.kid_theory.specs.FrontView.{plain_front};

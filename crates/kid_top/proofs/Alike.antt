@@ -4,7 +4,7 @@ use Rattle.std.specs.Prelude.{nat_le, length, if◌then◌else◌}
 use Rattle.kid_sexp.specs.Reading.{reading}
 use Rattle.kid_term.specs.Eval.{Env}
 use Rattle.kid_term.specs.Names.{Names}
-use Rattle.kid_kernel.specs.PlainTheory.{PlainTheory}
+use Rattle.kid_term.specs.PlainTheory.{PlainTheory}
 use Rattle.kid_prog.specs.declared.fault.LoadCode.TheVariants as code
 use Rattle.kid_prog.specs.ProgramText.{program_text}
 use Rattle.kid_prog.specs.Loading.{refused, from_forest, loading}

@@ -6,7 +6,7 @@ use Rattle.std.proofs.lemmas.Bool.Decides.{nat_tests}
 use Rattle.kid_outer.specs.Held.{Held, update}
 use Rattle.kid_term.specs.Eval.{Env}
 use Rattle.kid_codec.proofs.Numbers.{bytes_eq-itself, bytes_eq-true}
-use Rattle.kid_kernel.specs.PlainTheory.{PlainTheory}
+use Rattle.kid_term.specs.PlainTheory.{PlainTheory}
 use Rattle.kid_theory.specs.IsTheory.{IsTheory}
 use Rattle.kid_prog.specs.ProgramText.{program_text}
 use Rattle.kid_prog.specs.PlainProgram.{PlainProgram}

@@ -14,12 +14,12 @@ use Rattle.kid_term.specs.Sorting.{sort_of}
 use Rattle.kid_term.specs.Substitution.{replaced, captures}
 use Rattle.kid_term.proofs.SimultaneousLemmas.{eval-substituted}
 use Rattle.kid_term.proofs.SortedValue.{sort_of_ok}
-use Rattle.kid_kernel.specs.PlainTheory.{PlainTheory}
+use Rattle.kid_term.specs.PlainTheory.{PlainTheory}
 use Rattle.kid_prog.specs.Events.{Event, called, found, procedure}
 use Rattle.kid_top.specs.RangeSearch.{middle}
 use Rattle.kid_top.specs.Emitted.{emitted, leaf, is_apart, takes_leaf}
 use Rattle.kid_top.specs.TheoryAt.{theory_calls, relates_at}
-use Rattle.kid_top.proofs.Scopes.{eval-in_scope, names-differ}
+use Rattle.kid_term.proofs.Scopes.{eval-in_scope, names-differ}
 
 -- the theory's program searches its sort
 pub record Searchable (t : PlainTheory) (lo hi : ℤ) : Type 0 where

@@ -10,7 +10,7 @@ use Rattle.std.proofs.lemmas.Grind.{flat_map-append}
 use Rattle.std.proofs.lemmas.Bool.Decides.{nat_tests}
 use Rattle.kid_value.specs.PlainValue.{PlainValue, int}
 use Rattle.kid_term.specs.Eval.{Env}
-use Rattle.kid_kernel.specs.PlainTheory.{PlainTheory}
+use Rattle.kid_term.specs.PlainTheory.{PlainTheory}
 use Rattle.kid_prog.specs.Events.{Event, called, found, program_events}
 use Rattle.kid_prog.specs.Running.{Run, upto, upto_value, within, run_of}
 use Rattle.kid_prog.proofs.EventLists.{calls_in, whole-is_all, few-whole, many-cut}

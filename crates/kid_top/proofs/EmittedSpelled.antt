@@ -17,7 +17,7 @@ use Rattle.kid_codec.specs.DeclaredSpelling.{is_spelled_name, is_spelled_definit
 use Rattle.kid_codec.specs.TermSpelling.{begin_with_numbers, is_spelled_head, is_spelled_term, are_spelled_terms}
 use Rattle.kid_codec.specs.Takes.{takes, numbers_first}
 use Rattle.kid_codec.proofs.Found.{same_some, if_some}
-use Rattle.kid_kernel.specs.PlainTheory.{PlainTheory}
+use Rattle.kid_term.specs.PlainTheory.{PlainTheory}
 use Rattle.kid_theory.specs.IsTheory.{IsTheory}
 use Rattle.kid_prog.specs.PlainProgram.{PlainProgram}
 use Rattle.kid_prog.specs.Spelling.{is_spelled_stmt, is_spelled_program}

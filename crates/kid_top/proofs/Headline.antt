@@ -10,7 +10,7 @@ use Rattle.kid_value.specs.PlainSort.{PlainSort, ints}
 use Rattle.kid_value.specs.PlainValue.{PlainValue, int}
 use Rattle.kid_term.specs.Eval.{Env}
 use Rattle.kid_outer.specs.Held.{Held}
-use Rattle.kid_kernel.specs.PlainTheory.{PlainTheory}
+use Rattle.kid_term.specs.PlainTheory.{PlainTheory}
 use Rattle.kid_prog.specs.PlainProgram.{PlainProgram}
 use Rattle.kid_prog.specs.Running.{Run, run_of}
 use Rattle.kid_run.specs.Lines.{value_line, closing_line, fuel_line, outside_line, last_line, run_lines, input_lines, all_lines, run_text}

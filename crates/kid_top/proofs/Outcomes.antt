@@ -1,7 +1,7 @@
 -- What it takes for an outcome to be there.
 use Rattle.std.proofs.Common.{◌≡◌, ℕ, Bool, true, false, List, Option, Some, None, Result, Ok, Err, refl, sym, ap, ◌∙◌}
 use Rattle.std.specs.Prelude.{nat_le, length, if◌then◌else◌}
-use Rattle.kid_kernel.specs.PlainTheory.{PlainTheory}
+use Rattle.kid_term.specs.PlainTheory.{PlainTheory}
 use Rattle.kid_theory.specs.IsTheory.{IsTheory}
 use Rattle.kid_theory.specs.Reading.{Read, theory_reading}
 use Rattle.kid_theory.proofs.Laws.{theories_read}

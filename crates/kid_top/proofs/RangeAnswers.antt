@@ -12,7 +12,7 @@ use Rattle.kid_value.specs.InSort.{in_sort}
 use Rattle.kid_value.specs.ValueSet.{is_member, AllAfter, Ascends}
 use Rattle.kid_term.specs.Answer.{relates, AllAnswers, first_of}
 use Rattle.kid_term.specs.Eval.{Env}
-use Rattle.kid_kernel.specs.PlainTheory.{PlainTheory}
+use Rattle.kid_term.specs.PlainTheory.{PlainTheory}
 use Rattle.kid_top.specs.Printed.{AreAnswers}
 use Rattle.kid_top.specs.RangeSearch.{Interval, range_leaf, range_kids, range_search, range_visited}
 use Rattle.kid_top.specs.Search.{visited}

@@ -1,7 +1,7 @@
 -- The program for a theory searches the theory's range.
 use Rattle.std.proofs.Common.{◌≡◌, ℤ, Some}
 use Rattle.kid_value.specs.PlainSort.{ints}
-use Rattle.kid_kernel.specs.PlainTheory.{PlainTheory}
+use Rattle.kid_term.specs.PlainTheory.{PlainTheory}
 use Rattle.kid_theory.specs.IsTheory.{IsTheory}
 use Rattle.kid_prog.specs.PlainProgram.{PlainProgram}
 use Rattle.kid_top.specs.Emitted.{emitted, program_for}

@@ -3,7 +3,8 @@ use Rattle.std.proofs.Common.{◌≡◌, ◌≤◌, ℕ, List, Option, Some, Non
 use Rattle.std.specs.Global.{Vec}
 use Rattle.kid_outer.specs.Causes.{Rose, NeverFall}
 use Rattle.kid_outer.specs.Held.{Held}
-use Rattle.kid_kernel.specs.PlainTheory.{PlainTheory, plain_theory}
+use Rattle.kid_term.specs.PlainTheory.{PlainTheory}
+use Rattle.kid_kernel.specs.TheoryView.{plain_theory}
 use Rattle.kid_kernel.specs.declared.theory.Theory.{Theory}
 use Rattle.kid_theory.specs.Reading.{theory_reading}
 use Rattle.kid_prog.specs.ProgramView.{plain_program}

@@ -9,7 +9,7 @@ use Rattle.kid_term.specs.declared.operator.Op.TheVariants.{Logic, Number}
 use Rattle.kid_term.specs.declared.operator.LogicOp.TheVariants.{Eq}
 use Rattle.kid_term.specs.declared.operator.NumberOp.{NumberOp}
 use Rattle.kid_term.specs.declared.operator.NumberOp.TheVariants.{Lt, Add, Div}
-use Rattle.kid_kernel.specs.PlainTheory.{PlainTheory}
+use Rattle.kid_term.specs.PlainTheory.{PlainTheory}
 use Rattle.kid_prog.specs.PlainStmt.{PlainStmt, when, emit, call, PlainStmts, no_stmt, stmt}
 use Rattle.kid_prog.specs.PlainProgram.{PlainProgram}
 

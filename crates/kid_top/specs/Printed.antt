@@ -5,7 +5,7 @@ use Rattle.kid_value.specs.PlainSort.{PlainSort, ints}
 use Rattle.kid_value.specs.PlainValue.{PlainValue, int}
 use Rattle.kid_term.specs.Answer.{Answer}
 use Rattle.kid_term.specs.Eval.{Env}
-use Rattle.kid_kernel.specs.PlainTheory.{PlainTheory}
+use Rattle.kid_term.specs.PlainTheory.{PlainTheory}
 use Rattle.kid_prog.specs.PlainProgram.{PlainProgram}
 use Rattle.kid_prog.specs.Running.{run_of}
 use Rattle.kid_run.specs.Lines.{value_line, closing_line, fuel_line, outside_line}

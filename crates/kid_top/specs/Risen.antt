@@ -2,7 +2,7 @@
 use Rattle.std.specs.Prelude.{◌≡◌, ℕ, List, Option, Some, None, Ok, ◌⊎◌}
 use Rattle.kid_outer.specs.Causes.{Rose}
 use Rattle.kid_outer.specs.Held.{Held}
-use Rattle.kid_kernel.specs.PlainTheory.{PlainTheory}
+use Rattle.kid_term.specs.PlainTheory.{PlainTheory}
 use Rattle.kid_prog.specs.PlainProgram.{PlainProgram}
 use Rattle.kid_top.specs.Command.{Command, derive, run, solve}
 use Rattle.kid_top.specs.Outcome.{theory_stage, program_stage, script_program}

@@ -4,7 +4,7 @@ use Rattle.kid_value.specs.PlainValue.{int}
 use Rattle.kid_value.specs.Rows.Parts.{truth_of}
 use Rattle.kid_term.specs.Answer.{relates}
 use Rattle.kid_term.specs.Eval.{Env, Calls, eval, calls_of}
-use Rattle.kid_kernel.specs.PlainTheory.{PlainTheory}
+use Rattle.kid_term.specs.PlainTheory.{PlainTheory}
 
 -- the calls of the theory's definitions
 abbrev pub theory_calls : PlainTheory → Calls

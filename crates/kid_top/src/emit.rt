@@ -4,7 +4,7 @@ ghost use Rattle.kid_value.specs.PlainSort.{ints};
 ghost use Rattle.kid_value.specs.SortView.{plain_sort};
 ghost use Rattle.kid_term.specs.PlainTerm.{var, number as number_term, app, op, term, no_term};
 ghost use Rattle.kid_term.specs.TermView.{plain_term};
-ghost use Rattle.kid_kernel.specs.PlainTheory.{plain_theory};
+ghost use Rattle.kid_kernel.specs.TheoryView.{plain_theory};
 ghost use Rattle.kid_prog.specs.StmtView.{plain_stmt};
 ghost use Rattle.kid_prog.specs.ProgramView.{plain_program};
 ghost use Rattle.kid_top.specs.Refusal.{Gives};

@@ -2,7 +2,7 @@
 ghost use Rattle.std.specs.Prelude.{◌≡◌, IfOk, IsErrOf, option_map};
 ghost use Rattle.std.specs.Bool.{OnFalse};
 ghost use Rattle.kid_outer.specs.Causes.{Rose, NeverFall};
-ghost use Rattle.kid_kernel.specs.PlainTheory.{plain_theory};
+ghost use Rattle.kid_kernel.specs.TheoryView.{plain_theory};
 ghost use Rattle.kid_theory.specs.IsTheory.{IsTheory};
 ghost use Rattle.kid_theory.specs.Reading.{theory_reading};
 ghost use Rattle.kid_prog.specs.ProgramView.{plain_program};

@@ -1,6 +1,6 @@
 use Rattle.std.proofs.Common.{◌≡◌, map, length}
 use Rattle.kid_term.specs.DefView.{plain_def}
-use Rattle.kid_sorting.specs.Definition.{definition_of}
+use Rattle.kid_term.specs.Definition.{definition_of}
 use Rattle.kid_sorting.proofs.find.find_definition.Given as goal
 
 abbrev pub decreases-loop-latest : goal.decreases-loop-latest

@@ -1,5 +1,4 @@
-use Rattle.std.proofs.Common.{◌≡◌, ◌*◌, ◌+◌, map, take}
-use Rattle.kid_term.specs.PlainTerm.{node_count, node_counts, term_row}
+use Rattle.std.proofs.Common.{◌≡◌, map, take}
 use Rattle.kid_term.specs.TermView.{plain_term}
 use Rattle.kid_term.specs.Simultaneous.{substituted}
 use Rattle.kid_term.specs.SubstView.{subst_of}

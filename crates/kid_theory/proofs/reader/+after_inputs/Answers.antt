@@ -1,5 +1,5 @@
 use Rattle.std.proofs.Common.{sym, ◌∙◌, ◌+◌, subst, arith}
-use Rattle.kid_kernel.specs.PlainTheory.{plain_theory}
+use Rattle.kid_kernel.specs.TheoryView.{plain_theory}
 use Rattle.kid_theory.specs.Answers.{Reads}
 use Rattle.kid_theory.specs.FrontView.{plain_front}
 use Rattle.kid_theory.proofs.StageLemmas.{input-next, require-next}

@@ -1,5 +1,5 @@
 use Rattle.std.proofs.Common.{refl, sym, ◌∙◌, ◌+◌, subst, arith}
-use Rattle.kid_kernel.specs.PlainTheory.{plain_theory}
+use Rattle.kid_kernel.specs.TheoryView.{plain_theory}
 use Rattle.kid_theory.specs.Answers.{Reads}
 use Rattle.kid_theory.specs.Reading.{with_first}
 use Rattle.kid_theory.proofs.StageLemmas.{first-next}

@@ -1,4 +1,4 @@
-use Rattle.kid_kernel.specs.PlainTheory.{plain_theory}
+use Rattle.kid_kernel.specs.TheoryView.{plain_theory}
 use Rattle.kid_prog.specs.ProgramView.{plain_program}
 use Rattle.kid_top.proofs.EmittedSpelled.{emitted_spelled}
 use Rattle.kid_top.proofs.derived.emitted_program.Goals as goal

@@ -1,4 +1,4 @@
-use Rattle.kid_kernel.specs.PlainTheory.{plain_theory}
+use Rattle.kid_kernel.specs.TheoryView.{plain_theory}
 use Rattle.kid_top.proofs.StageLemmas.{after_script}
 use Rattle.kid_top.proofs.derived.script_program.Goals as goal
 

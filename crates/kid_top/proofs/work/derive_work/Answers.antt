@@ -2,7 +2,7 @@ use Rattle.std.proofs.Common.{Option, subst}
 use Rattle.kid_outer.specs.Held.{Held}
 use Rattle.kid_top.specs.declared.work.Work.{Work as Given}
 use Rattle.kid_top.specs.Outcome.{Work, Outcomes, theory_stage, derive_theory}
-use Rattle.kid_kernel.specs.PlainTheory.{plain_theory}
+use Rattle.kid_kernel.specs.TheoryView.{plain_theory}
 use Rattle.kid_top.specs.WorkView.{plain_work}
 use Rattle.kid_top.proofs.StageLemmas.{after_stage, derive_rose}
 use Rattle.kid_top.proofs.work.derive_work.Goals as goal

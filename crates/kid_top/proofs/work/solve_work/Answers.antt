@@ -3,7 +3,7 @@ use Rattle.kid_outer.specs.Held.{Held}
 use Rattle.kid_top.specs.declared.work.Work.{Work as Given}
 use Rattle.kid_top.specs.Outcome.{Work, Outcomes, theory_stage, solve_theory}
 use Rattle.kid_top.specs.Risen.{TheoryRose}
-use Rattle.kid_kernel.specs.PlainTheory.{plain_theory}
+use Rattle.kid_kernel.specs.TheoryView.{plain_theory}
 use Rattle.kid_top.specs.WorkView.{plain_work}
 use Rattle.kid_top.proofs.StageLemmas.{after_stage, solve_rose}
 use Rattle.kid_top.proofs.work.solve_work.Goals as goal
