@@ -1,10 +1,11 @@
 -- The laws of the forms that theories and programs share.
-use Rattle.std.proofs.Common.{◌≡◌, ℕ, ℤ, pos, negsuc, Bool, true, List, Some, None, refl, sym, ap, ◌∙◌}
+use Rattle.std.proofs.Common.{◌≡◌, inl, inr, ℕ, ℤ, pos, negsuc, Bool, true, List, Some, None, refl, sym, ap, ◌∙◌}
 use Rattle.std.specs.Prelude.{codes, if◌then◌else◌}
 use Rattle.kid_sexp.specs.Plain.{Plain}
+use Rattle.kid_term.specs.PlainLaw.{equal, holds}
 use Rattle.kid_term.specs.PlainTerm.{PlainTerm}
 use Rattle.kid_codec.proofs.Found.{same_some, if_some}
-use Rattle.kid_form.specs.Axiom.{given_form, conclusion_form, axiom_parts_form}
+use Rattle.kid_form.specs.Axiom.{given_form, conclusion_of, sides_of, conclusion_form, axiom_of, parts_of as axiom_parts, axiom_form}
 use Rattle.kid_form.specs.Definition.{definition_of, parts_of, definition_form}
 use Rattle.kid_form.specs.First.{is_count, count_of, first_form}
 use Rattle.kid_form.specs.Form.{Form, Lawful}
@@ -30,17 +31,19 @@ pub given_form-lawful : Lawful given_form
 given_form-lawful = headed-lawful (codes "given") (each-lawful theory_term_form-lawful)
 
 pub conclusion_form-lawful : Lawful conclusion_form
-conclusion_form-lawful =
-    either-lawful (codes "equal") (two-lawful theory_term_form-lawful theory_term_form-lawful) (headed-lawful (codes "holds") (one-lawful theory_term_form-lawful)) (λ c h. refl)
+conclusion_form-lawful = renamed-lawful conclusion_of sides_of
+    (either-lawful (codes "equal") (two-lawful theory_term_form-lawful theory_term_form-lawful) (headed-lawful (codes "holds") (one-lawful theory_term_form-lawful)) (λ c h. refl))
+    (elim [ inl p ↦ refl | inr c ↦ refl ]) (elim [ equal l r ↦ refl | holds c ↦ refl ])
 
-pub axiom_parts_form-lawful : Lawful axiom_parts_form
-axiom_parts_form-lawful =
-    headed-lawful (codes "axiom") (four-lawful word_form-lawful (declared_names-lawful word_form-lawful) given_form-lawful conclusion_form-lawful)
+pub axiom_form-lawful : Lawful axiom_form
+axiom_form-lawful = renamed-lawful axiom_of axiom_parts
+    (headed-lawful (codes "axiom") (four-lawful word_form-lawful (declared_names-lawful word_form-lawful) given_form-lawful conclusion_form-lawful))
+    (λ p. refl) (λ a. refl)
 
 pub shared_forms : SharedFormsAreLawful
 shared_forms = record {
   theory_definition = definition_form-lawful word_form-lawful theory_term_form-lawful;
   program_definition = definition_form-lawful name_form-lawful term_form-lawful;
   first = first_form-lawful;
-  axiom_parts = axiom_parts_form-lawful;
+  axiom = axiom_form-lawful;
 }

@@ -2,8 +2,8 @@
 ghost use Rattle.kid_form.specs.FormExamples.{FormExamples};
 ghost use Rattle.kid_form.specs.FormLaws.{SharedFormsAreLawful};
 
-/// What is read as a definition, as a number of answers or as the parts of an axiom was spelled so where it is valid, and what has
-/// a spelling is read back.
+/// What is read as a definition, as a number of answers or as an axiom was spelled so where it is valid, and what has a spelling is
+/// read back.
 #[tactic(auto, using(crate::proofs::SharedLaws::shared_forms))]
 pub fn shared_forms_are_lawful()
     ensures { SharedFormsAreLawful }

@@ -5,6 +5,7 @@ mod axiom;
 mod declared;
 mod definition;
 mod first;
+mod headed;
 mod law;
 mod leaves;
 mod lists;
@@ -14,6 +15,7 @@ pub use axiom::read_given;
 pub use declared::{DeclaredName, DeclaredNames, DeclaredWord, DeclaredWords};
 pub use definition::{definition_tree, read_program_definition, read_theory_definition};
 pub use first::{first_tree, read_first};
+pub use headed::{headed_one_tree, headed_two_tree, read_headed_one, read_headed_two};
 pub use law::{forms_by_example, shared_forms_are_lawful};
 pub use leaves::{
     AllowedTerm, AnyTerm, AnyWord, Index, Name, Number, PathForm, SortForm, TheoryTerm,
