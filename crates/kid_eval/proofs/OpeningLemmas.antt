@@ -9,7 +9,7 @@ use Rattle.kid_term.specs.Names.{same_name, PlainDef}
 use Rattle.kid_term.specs.Latest.{later, latest_place}
 use Rattle.kid_term.specs.Eval.{eval, Calls, call_at, calls_over, calls_of, bound, def_value}
 use Rattle.kid_term.specs.Small.{Checks, check_at, checks_over, checks_of, def_small, stays_small}
-use Rattle.kid_term.specs.Cost.{Costs, cost, cost_at, costs_over, costs_of}
+use Rattle.kid_term.specs.Cost.{Costs, cost, cost_at, costs_over}
 use Rattle.kid_term.specs.declared.definition.Def.{Def}
 use Rattle.kid_eval.specs.Opening.{Opens, IsUndefined}
 
@@ -106,10 +106,10 @@ take-taken (suc i) (suc n) (d ∷ ds) lt = ap (λ z. d ∷ z) (take-taken i n ds
 pub all_known : (ds : List PlainDef) → take (length ds) ds ≡ ds
 all_known ds = take-length ds
 
-module _ (f : List ℕ) (n : ℕ) (items : List Def) (all : List PlainDef) (are : map plain_def items ≡ all) where
-  pub undefined : latest_place f (take n all) ≡ None → IsUndefined f (take n all)
-  undefined p vs = (passes f [] [] [] (take n all) p).value vs
+pub undefined : (f : List ℕ) (n : ℕ) (all : List PlainDef) → latest_place f (take n all) ≡ None → IsUndefined f (take n all)
+undefined f n all p vs = (passes f [] [] [] (take n all) p).value vs
 
+module _ (f : List ℕ) (n : ℕ) (items : List Def) (all : List PlainDef) (are : map plain_def items ≡ all) where
   found : (i : ℕ) → latest_place f (take n all) ≡ Some i → (i < length items) × (i < n)
   found i p = place-known f n items i (ap (λ ds. latest_place f (take n ds)) are ∙ p)
 

@@ -336,7 +336,7 @@ fn finds<'a>(
 {
     for v in members {
         let inner = Scope::More(x, v, scope);
-        let holds = value_of(alloc, known, &inner, body)?;
+        let holds = value_of(alloc, &*known, &inner, body)?;
         if is_true(&holds) == truth {
             return Ok(true);
         }
@@ -360,7 +360,7 @@ fn values_over<'a>(
     let mut values = Vec::new(alloc);
     for v in members {
         let inner = Scope::More(x, v, scope);
-        let value = value_of(alloc, known, &inner, body)?;
+        let value = value_of(alloc, &*known, &inner, body)?;
         values.push(value)?;
     }
     Ok(values)
