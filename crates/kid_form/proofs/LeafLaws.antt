@@ -1,8 +1,6 @@
 -- The laws of the forms of names, numbers, sorts and terms, and of names with their sorts.
 use Rattle.std.proofs.Common.{◌≡◌, ℕ, ℤ, pos, negsuc, Bool, true, List, Some, None, sym, ap, ◌∙◌}
 use Rattle.std.specs.Prelude.{not, nat_le, if◌then◌else◌}
-use Rattle.kid_value.specs.PlainValue.{PlainValue}
-use Rattle.kid_value.specs.Canonical.{IsCanonical}
 use Rattle.kid_term.specs.WordTerms.{holds_word_operator}
 use Rattle.kid_codec.specs.Name.{is_name}
 use Rattle.kid_codec.proofs.Found.{same_some, if_some, number_from}
@@ -14,7 +12,8 @@ use Rattle.kid_codec.proofs.TermTold.{term_told}
 use Rattle.kid_codec.proofs.ValueBack.{value_back}
 use Rattle.kid_sexp.specs.Plain.{Plain}
 use Rattle.kid_form.specs.Form.{Form, Lawful}
-use Rattle.kid_form.specs.Leaves.{word_form, name_form, digits_form, number_form, natural_up_to, up_to, index_form, path_form, sort_form, term_form, allowed_term_form, theory_term_form, value_form, declared, declared_names}
+use Rattle.kid_form.specs.FormLaws.{ValuesAreReadBack}
+use Rattle.kid_form.specs.Leaves.{word_form, name_form, digits_form, number_form, natural_up_to, up_to, index_form, path_form, sort_form, term_form, allowed_term_form, theory_term_form, declared, declared_names}
 use Rattle.kid_form.proofs.DataLaws.{narrowed-lawful, restricted-lawful, strict-lawful}
 use Rattle.kid_form.proofs.ListLaws.{two-lawful, each-lawful}
 use Rattle.kid_form.proofs.TreeLaws.{word-lawful, as_atom-lawful, listed-lawful}
@@ -66,8 +65,8 @@ pub theory_term_form-lawful : Lawful theory_term_form
 theory_term_form-lawful = restricted-lawful (λ t. not (holds_word_operator t)) term_form-lawful
 
 -- a canonical value is read back; a tree may list the members of its sets in another order
-pub value_form-back : (v : PlainValue) → IsCanonical v → value_form.spelled v ≡ true → value_form.read (value_form.spell v) ≡ Some v
-value_form-back = value_back
+pub value_form_back : ValuesAreReadBack
+value_form_back = value_back
 
 pub declared-lawful : {n : Form Plain (List ℕ)} → Lawful n → Lawful (declared n)
 declared-lawful lawful = two-lawful lawful sort_form-lawful

@@ -119,7 +119,7 @@ module _ {A B C D : Type 0} {f : Form Plain A} {g : Form Plain B} {h : Form Plai
       let o_is = o.tree in
       subst (Told (four f g h k) ts) is
       (record {
-        tree = quadruple_told ts q is_there ∙ (λ i. more (r_is i) (more (s_is i) (more (t_is i) (more (o_is i) none))));
+        tree = ◌∙◌ {c = more (f.spell a) (more (g.spell b) (more (h.spell n.0) (more (k.spell n.1) none)))} (quadruple_told ts q is_there) (λ i. more (r_is i) (more (s_is i) (more (t_is i) (more (o_is i) none))));
         spelled = and_both (f.spelled a && g.spelled b && h.spelled n.0) (k.spelled n.1)
             (and_both (f.spelled a && g.spelled b) (h.spelled n.0) (and_both (f.spelled a) (g.spelled b) r.spelled s.spelled) t.spelled) o.spelled;
       })

@@ -45,5 +45,5 @@ shared_forms = record {
   theory_definition = definition_form-lawful word_form-lawful theory_term_form-lawful;
   program_definition = definition_form-lawful name_form-lawful term_form-lawful;
   first = first_form-lawful;
-  axiom = axiom_form-lawful;
+  axioms = axiom_form-lawful;
 }

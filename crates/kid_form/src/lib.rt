@@ -16,7 +16,7 @@ pub use declared::{DeclaredName, DeclaredNames, DeclaredWord, DeclaredWords};
 pub use definition::{definition_tree, read_program_definition, read_theory_definition};
 pub use first::{first_tree, read_first};
 pub use headed::{headed_one_tree, headed_two_tree, read_headed_one, read_headed_two};
-pub use law::{forms_by_example, shared_forms_are_lawful};
+pub use law::{forms_by_example, shared_forms_are_lawful, values_are_read_back};
 pub use leaves::{
     AllowedTerm, AnyTerm, AnyWord, Index, Name, Number, PathForm, SortForm, TheoryTerm,
 };
