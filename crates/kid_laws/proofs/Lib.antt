@@ -1,0 +1,12 @@
+pub mod GroupLemmas
+pub mod KindLemmas
+pub mod Lifting
+pub mod LogicTruths
+pub mod MapTruths
+pub mod NumberTruths
+pub mod OutcomeLemmas
+pub mod RowLemmas
+pub mod SequenceTruths
+pub mod SetTruths
+pub mod SpellLemmas
+pub mod TableTrue

@@ -1,0 +1,13 @@
+pub mod Law
+pub mod Heads
+pub mod LogicLaws
+pub mod NumberLaws
+pub mod SetLaws
+pub mod SequenceLaws
+pub mod MapLaws
+pub mod Table
+pub mod Lawful
+pub mod Truth
+pub mod Laws
+pub mod Instances
+pub mod Steps
