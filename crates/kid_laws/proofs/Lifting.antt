@@ -27,7 +27,6 @@ use Rattle.kid_laws.specs.Lawful.{Kind, anys, bools, ints, sets, seqs, maps, kin
 use Rattle.kid_laws.specs.Truth.{EachOf, ForAll, Given, IsTrue}
 use Rattle.kid_laws.proofs.KindLemmas.{Has, Have, op_met}
 
-
 -- ---- sides of laws
 
 -- nothing is bound in a side

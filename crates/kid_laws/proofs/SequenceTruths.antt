@@ -1,7 +1,7 @@
 -- The laws of sequences are true.
-use Rattle.std.proofs.Common.{◌≡◌, ℤ, pos, ◌≤ℤ◌, Bool, true, sym, ap, ◌∙◌, subst, length}
+use Rattle.std.proofs.Common.{◌≡◌, ℤ, pos, ◌≤ℤ◌, true, sym, ap, ◌∙◌, subst, length}
 use Rattle.std.specs.Prelude.{int_le}
-use Rattle.kid_value.specs.PlainValue.{PlainValue, int, bool, set, seq, items, row}
+use Rattle.kid_value.specs.PlainValue.{int, bool, seq, items, row}
 use Rattle.kid_value.specs.Rows.Number.{le}
 use Rattle.kid_value.specs.Rows.Parts.{truth_of}
 use Rattle.kid_value.specs.Rows.Set.{first_or, numbers}

@@ -8,7 +8,7 @@ use Rattle.kid_term.proofs.SortedValue.{sort_of_ok}
 use Rattle.kid_laws.specs.Law.{Law}
 use Rattle.kid_laws.specs.Laws.{InstancesAreTrue}
 use Rattle.kid_laws.specs.Lawful.{is_lawful}
-use Rattle.kid_laws.specs.Table.{equations, implications, laws_of, law_at, first_equations, second_equations, third_equations, fourth_equations, first_implications, second_implications}
+use Rattle.kid_laws.specs.Table.{laws_of, law_at, first_equations, second_equations, third_equations, fourth_equations, first_implications, second_implications}
 use Rattle.kid_laws.specs.Truth.{IsTrue, AreTrue}
 use Rattle.kid_laws.specs.declared.kind.LawKind.{LawKind}
 use Rattle.kid_laws.specs.declared.kind.LawKind.TheVariants.{Equation, Implication}

@@ -1,5 +1,5 @@
 -- A law: two terms over variables that have one value wherever the conditions are true.
-use Rattle.std.specs.Prelude.{ℕ, true, List, [], ◌∷◌, map}
+use Rattle.std.specs.Prelude.{ℕ, true, List, [], map}
 use Rattle.kid_term.specs.PlainTerm.{op, PlainTerm, var, truth, app, no_term, term}
 use Rattle.kid_term.specs.declared.operator.Op.{Op}
 

@@ -1,4 +1,5 @@
 pub mod Law
+pub mod Corner
 pub mod Heads
 pub mod LogicLaws
 pub mod NumberLaws
@@ -11,3 +12,7 @@ pub mod Truth
 pub mod Laws
 pub mod Instances
 pub mod Steps
+pub mod Matching
+pub mod Same
+pub mod Found
+pub mod BoundView

@@ -1,6 +1,8 @@
--- The laws of numbers.
-use Rattle.std.specs.Prelude.{[], ◌∷◌}
-use Rattle.kid_laws.specs.Law.{Law, equation, implication}
+-- The laws of numbers, and what they say in the corners.
+use Rattle.std.specs.Prelude.{◌≡◌, pos, negsuc, true, false, [], ◌∷◌, refl}
+use Rattle.kid_value.specs.PlainValue.{int, bool}
+use Rattle.kid_laws.specs.Law.{Law, name_of, equation, implication}
+use Rattle.kid_laws.specs.Corner.{at_values, shown}
 use Rattle.kid_laws.specs.Heads.{a, add', and', b, c, d, eq', if', le', lt', max', min', mul', neg', not', one', sub', zero'}
 
 -- a sum, in either order
@@ -59,10 +61,22 @@ e27 = equation (a ∷ b ∷ []) [] (min' a b) (if' (le' a b) a b)
 abbrev pub m2 : Law
 m2 = implication (a ∷ b ∷ c ∷ []) (le' a b ∷ le' b c ∷ []) (le' a c)
 
+-- no way between
+m2-corner : at_values ((name_of a, int (pos 2)) ∷ (name_of b, int (pos 1)) ∷ (name_of c, int (pos 1)) ∷ []) m2 ≡ shown false (bool false) (bool true)
+m2-corner = refl
+
 -- two inequalities, added
 abbrev pub m3 : Law
 m3 = implication (a ∷ b ∷ c ∷ d ∷ []) (le' a b ∷ le' c d ∷ []) (le' (add' a c) (add' b d))
 
+-- one of them fails
+m3-corner : at_values ((name_of a, int (pos 1)) ∷ (name_of b, int (pos 0)) ∷ (name_of c, int (pos 0)) ∷ (name_of d, int (pos 0)) ∷ []) m3 ≡ shown false (bool false) (bool true)
+m3-corner = refl
+
 -- an inequality times a number that is not negative
 abbrev pub m5 : Law
 m5 = implication (a ∷ b ∷ c ∷ []) (le' a b ∷ le' zero' c ∷ []) (le' (mul' a c) (mul' b c))
+
+-- a negative number
+m5-corner : at_values ((name_of a, int (pos 0)) ∷ (name_of b, int (pos 1)) ∷ (name_of c, int (negsuc 0)) ∷ []) m5 ≡ shown false (bool false) (bool true)
+m5-corner = refl

@@ -1,6 +1,8 @@
 //! The laws of maps.
 
-use crate::heads::{D, DOM, EMPTY, FITS, GET, IN, M, N, NOT, PUT, SUBMAP, SUBSET, TRUE, WITH, X, Y};
+use crate::heads::{
+    D, DOM, EMPTY, FITS, GET, IN, M, N, NOT, PUT, SUBMAP, SUBSET, TRUE, WITH, X, Y,
+};
 use crate::step::Row;
 
 /// What was put at a key stands there.

@@ -1,6 +1,8 @@
 //! The laws of numbers.
 
-use crate::heads::{A, ADD, AND, B, C, D, EQ, IF, LE, LT, MAX, MIN, MUL, NEG, NOT, ONE, SUB, TRUE, ZERO};
+use crate::heads::{
+    A, ADD, AND, B, C, D, EQ, IF, LE, LT, MAX, MIN, MUL, NEG, NOT, ONE, SUB, TRUE, ZERO,
+};
 use crate::step::Row;
 
 /// A sum, in either order.

@@ -1,6 +1,9 @@
 //! The laws of sequences.
 
-use crate::heads::{A, ADD, AT, IN, ITEMS, LE, LEAST, LEN, ONE, PREFIX, RANGE, SNOC, SUBSET, TOTAL, TRUE, V, W, WITH, X, Y, ZERO};
+use crate::heads::{
+    A, ADD, AT, IN, ITEMS, LE, LEAST, LEN, ONE, PREFIX, RANGE, SNOC, SUBSET, TOTAL, TRUE, V, W,
+    WITH, X, Y, ZERO,
+};
 use crate::step::Row;
 
 /// The length with one item more.

@@ -1,6 +1,9 @@
 //! The laws of sets.
 
-use crate::heads::{A, ADD, AND, B, C, CARD, D, DIFF, EMPTY, EQ, IN, INTER, LE, LEAST, NOT, ONE, OR, RANGE, S, SET, SUBSET, SUM, T, TRUE, U, UNION, WITH, WITHOUT, X, Y, ZERO};
+use crate::heads::{
+    A, ADD, AND, B, C, CARD, D, DIFF, EMPTY, EQ, IN, INTER, LE, LEAST, NOT, ONE, OR, RANGE, S, SET,
+    SUBSET, SUM, T, TRUE, U, UNION, WITH, WITHOUT, X, Y, ZERO,
+};
 use crate::step::Row;
 
 /// A union, in either order.

@@ -6,10 +6,13 @@ ghost use Rattle.kid_laws.specs.Table.{law_at, laws_of};
 
 use crate::kind::LawKind;
 use crate::logic::{E1, E2, E3, E4, E5, E6, E7, E8, E9, E10, E11, E12, E13, M1};
-use crate::numbers::{E14, E15, E16, E17, E18, E19, E21, E22, E23, E24, E25, E26, E27, M2, M3, M5};
-use crate::sets::{E28, E29, E30, E31, E32, E33, E34, E35, E36, E37, E38, E39, E40, E41, M6, M7, M8, M9, M10, M11, M12, M13, M14};
-use crate::sequences::{E42, E43, E44, E45, E46, M15, M16, M17, M18};
 use crate::maps::{E20, E47, E48, M4, M19, M20};
+use crate::numbers::{E14, E15, E16, E17, E18, E19, E21, E22, E23, E24, E25, E26, E27, M2, M3, M5};
+use crate::sequences::{E42, E43, E44, E45, E46, M15, M16, M17, M18};
+use crate::sets::{
+    E28, E29, E30, E31, E32, E33, E34, E35, E36, E37, E38, E39, E40, E41, M6, M7, M8, M9, M10, M11,
+    M12, M13, M14,
+};
 use crate::step::Row;
 
 const FIRST_EQUATIONS: [Row; 12] = [E1, E2, E3, E4, E5, E6, E7, E8, E9, E10, E11, E12];

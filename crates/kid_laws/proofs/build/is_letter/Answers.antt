@@ -1,4 +1,4 @@
-use Rattle.std.proofs.Common.{◌∷◌, [], ◌∙◌, refl}
+use Rattle.std.proofs.Common.{◌∷◌, [], ◌∙◌}
 use Rattle.kid_term.proofs.EvalLemmas.{same_name-comm}
 use Rattle.kid_term.proofs.NameLemmas.{same_from_equal}
 use Rattle.kid_laws.proofs.build.is_letter.Goals as goal
