@@ -1,0 +1,16 @@
+pub mod FoundLemmas
+pub mod GroupLemmas
+pub mod KindLemmas
+pub mod Lifting
+pub mod LogicTruths
+pub mod MapTruths
+pub mod MatchLemmas
+pub mod NumberTruths
+pub mod OutcomeLemmas
+pub mod RowLemmas
+pub mod SameLemmas
+pub mod SequenceTruths
+pub mod SetTruths
+pub mod SpellLemmas
+pub mod TableTrue
+pub mod WalkLemmas
