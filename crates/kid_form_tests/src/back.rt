@@ -1,4 +1,6 @@
-//! Reads a text by a form and prints what was read. `None` is want of memory, a refusal, or a text that is no tree.
+//! Reads a text by a form and prints what was read, or tells its fault. `None` is want of memory, or a text that is no tree where the
+//! test needs one.
+use kid_codec::CodecFault;
 use kid_form::{
     DeclaredWords, PathForm, TreeForm, definition_tree, first_tree, read_first,
     read_program_definition, read_theory_definition,
@@ -46,6 +48,31 @@ pub fn path_back(alloc: Global, text: &str) -> Option<Vec<u8>> {
     let path = PathForm::read(alloc, &tree).ok()?;
     let back = PathForm::tree(alloc, &path).ok()?;
     printed(alloc, back)
+}
+
+pub fn theory_fault(alloc: Global, text: &str) -> Option<CodecFault> {
+    let tree = tree(alloc, text.as_bytes())?;
+    read_theory_definition(alloc, &tree).err()
+}
+
+pub fn program_fault(alloc: Global, text: &str) -> Option<CodecFault> {
+    let tree = tree(alloc, text.as_bytes())?;
+    read_program_definition(alloc, &tree).err()
+}
+
+pub fn first_fault(alloc: Global, text: &str) -> Option<CodecFault> {
+    let tree = tree(alloc, text.as_bytes())?;
+    read_first(alloc, &tree).err()
+}
+
+pub fn path_fault(alloc: Global, text: &str) -> Option<CodecFault> {
+    let tree = tree(alloc, text.as_bytes())?;
+    PathForm::read(alloc, &tree).err()
+}
+
+/// Whether the text had another form.
+pub fn is_form(found: Option<CodecFault>) -> bool {
+    found == Some(CodecFault::Form)
 }
 
 /// How many names with their sorts a text declares.

@@ -1,20 +1,23 @@
 //! Texts that are read and printed back, and texts that are refused.
-use crate::back::{declared_count, first_back, is_text, path_back, program_back, theory_back};
+use crate::back::{
+    declared_count, first_back, first_fault, is_form, is_text, path_back, path_fault, program_back,
+    program_fault, theory_back, theory_fault,
+};
 use std::alloc::Global;
 use std::process::Abort;
 
 /// Read in theories and in programs.
 const DEFINITIONS: [&str; 3] = [
-    "(def f () bool true)",
-    "(def next ((n (int 0 8))) (int 1 9) (add n 1))",
-    "(def both ((x bool) (y (pair bool bool))) bool (and x (fst y)))",
+    "(def f () bool true)\n",
+    "(def next ((n (int 0 8))) (int 1 9) (add n 1))\n",
+    "(def both ((x bool) (y (pair bool bool))) bool (and x (fst y)))\n",
 ];
 
 /// Read in theories alone, which tell later that a word is no name.
-const WITH_WORDS: [&str; 2] = ["(def not () bool true)", "(def f ((7 bool)) bool true)"];
+const WITH_WORDS: [&str; 2] = ["(def not () bool true)\n", "(def f ((7 bool)) bool true)\n"];
 
 /// Read in programs alone.
-const WITH_WORD_OPERATORS: [&str; 1] = ["(def f ((w (int 0 7))) (int 0 3) (wcard w))"];
+const WITH_WORD_OPERATORS: [&str; 1] = ["(def f ((w (int 0 7))) (int 0 3) (wcard w))\n"];
 
 const NO_DEFINITIONS: [&str; 6] = [
     "def",
@@ -25,7 +28,7 @@ const NO_DEFINITIONS: [&str; 6] = [
     "(define f () bool true)",
 ];
 
-const COUNTS: [&str; 2] = ["(first 1)", "(first 1000000)"];
+const COUNTS: [&str; 2] = ["(first 1)\n", "(first 1000000)\n"];
 
 const NO_COUNTS: [&str; 5] = [
     "(first 0)",
@@ -35,7 +38,7 @@ const NO_COUNTS: [&str; 5] = [
     "(first 1 1)",
 ];
 
-const PATHS: [&str; 3] = ["()", "(0)", "(1 0 4294967295)"];
+const PATHS: [&str; 3] = ["()\n", "(0)\n", "(1 0 4294967295)\n"];
 
 const NO_PATHS: [&str; 4] = ["0", "(-1)", "(4294967296)", "((0))"];
 
@@ -47,7 +50,7 @@ fn theories_read_back(rt: &impl Abort, alloc: Global, texts: &[&str]) {
 
 fn theories_refuse(rt: &impl Abort, alloc: Global, texts: &[&str]) {
     for text in texts {
-        assert!(rt; theory_back(alloc, text).is_none(), "at {text}");
+        assert!(rt; is_form(theory_fault(alloc, text)), "at {text}");
     }
 }
 
@@ -59,7 +62,7 @@ fn programs_read_back(rt: &impl Abort, alloc: Global, texts: &[&str]) {
 
 fn programs_refuse(rt: &impl Abort, alloc: Global, texts: &[&str]) {
     for text in texts {
-        assert!(rt; program_back(alloc, text).is_none(), "at {text}");
+        assert!(rt; is_form(program_fault(alloc, text)), "at {text}");
     }
 }
 
@@ -71,7 +74,7 @@ fn counts_read_back(rt: &impl Abort, alloc: Global, texts: &[&str]) {
 
 fn are_no_counts(rt: &impl Abort, alloc: Global, texts: &[&str]) {
     for text in texts {
-        assert!(rt; first_back(alloc, text).is_none(), "at {text}");
+        assert!(rt; is_form(first_fault(alloc, text)), "at {text}");
     }
 }
 
@@ -83,7 +86,7 @@ fn paths_read_back(rt: &impl Abort, alloc: Global, texts: &[&str]) {
 
 fn are_no_paths(rt: &impl Abort, alloc: Global, texts: &[&str]) {
     for text in texts {
-        assert!(rt; path_back(alloc, text).is_none(), "at {text}");
+        assert!(rt; is_form(path_fault(alloc, text)), "at {text}");
     }
 }
 
