@@ -67,7 +67,7 @@ GROWS = """(program 1)
   (emit w)
   (if (lt i n) (call (cast (seq bool 2) (snoc w true)) (cast (int 0 9) (add i 1)))))
 """
-# what sees which of two: a test of the definition's argument, a binder, and the second term of `or`
+# a test in a definition that is called under a binder, the second term of `or`, and a remainder by a number
 WITHIN = """(program 1)
 (def f ((v (seq (int 0 9) 3)) (i (int 0 4))) (int 0 9) (if (le i (len v)) (at v i 9) 0))
 (input s (set (int 0 4)))
@@ -88,9 +88,9 @@ LINT = [
         "8:56: (cast (int 0 9) (add i 1)): behind (lt i n) of line 8; not at 2 inputs",
         "2 terms: 0 can not by their sorts, 1 did, 1 did not at 2 inputs"]),
     (WITHIN, "((set 1 2) (seq 7)) ((set) (seq))", [
-        "2:80: (at v i 9): behind (le i (len v)) of line 2; not at 2 inputs",
-        "5:38: (least s 0): behind (not (eq s (set))) of line 5; not at 2 inputs",
-        "7:96: (least s 1): behind (eq s (set)) of line 7; TAKEN at 1 of 2 inputs, first at ((set) (seq))",
+        "2:75: (at v i 9): behind (le i (len v)) of line 2; not at 2 inputs",
+        "5:33: (least s 0): behind (not (eq s (set))) of line 5; not at 2 inputs",
+        "7:91: (least s 1): behind (eq s (set)) of line 7; TAKEN at 1 of 2 inputs, first at ((set) (seq))",
         "4 terms: 1 can not by their sorts, 1 did, 2 did not at 2 inputs"]),
 ]
 
