@@ -103,6 +103,9 @@ LATE = """(program 1) (input n (int 0 9)) (require true) (output z (int 0 99))
 (main (emit 90) (call n 1) (if (lt 2 n) (emit 91) (call 1 2)) (emit 92))
 (search ((depth (int 0 9)) (depth-1 (int 0 99))) (for i (range 1 depth)
   (let less (cast (int 0 9) (sub depth i))) (if (lt less depth) (call less i))) (emit depth-1))"""
+# calls without arguments, one after another
+BARE = """(program 1) (require true) (output z bool) (main (emit false) (call) (if false (call)) (call))
+(search () (emit true))"""
 
 
 def ran(tool: str, *words: str, given: str = "") -> subprocess.CompletedProcess:
@@ -162,10 +165,12 @@ def wrong_firsts(folder: Path) -> Iterator[str]:
 
 def wrong_cuts(folder: Path) -> Iterator[str]:
     """Which programs are cut so that the parts are not the whole."""
-    (folder / "late.prog").write_text(LATE)
-    (folder / "late.in").write_text("(3)")
     whole = [(str(EXAMPLES / program), str(EXAMPLES / inputs), place) for program, inputs, place in CUT]
-    for program, inputs, place in [*whole, (str(folder / "late.prog"), str(folder / "late.in"), 1)]:
+    for name, program, inputs in (("late", LATE, "(3)"), ("bare", BARE, "()")):
+        (folder / f"{name}.prog").write_text(program)
+        (folder / f"{name}.in").write_text(inputs)
+        whole.append((str(folder / f"{name}.prog"), str(folder / f"{name}.in"), 1))
+    for program, inputs, place in whole:
         for depth in DEPTHS:
             done = ran("split", "--check", program, inputs, str(depth), "--input", str(place))
             if done.returncode or " parts give the whole: (answers " not in done.stdout:
