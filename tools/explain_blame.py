@@ -7,7 +7,6 @@ blame with which the row, cut off behind it, is refused.
 from __future__ import annotations
 
 import dataclasses
-from typing import Iterator
 
 from explain_judge import Answer, Judge
 from explain_text import Tree
@@ -78,19 +77,40 @@ class Blame:
                 around, tree, cure, row = [*around, tree], statement, None, None
                 row = ROWS.get(tree.head()) if tree.head() in ("if", "for") else None
                 continue
-            cured = list(self.cured(tree, row))
+            cured = list(self.cured(tree.items[:row] if row else tree.items))
             if len(cured) != 1:
-                return Finding(tree, around, cure, [part for part, _ in cured])
-            around, row = [*around, tree], None
-            tree, cure = cured[0]
+                return self.lifted(Finding(tree, around, cure, [part for _, part, _ in cured]))
+            way, tree, cure = [tree, *cured[0][0]], *cured[0][1:]
+            around, row = [*around, *way], None
+            if self.stands_alone(tree, cure):
+                return Finding(tree, around, cure, [])
 
-    def cured(self, tree: Tree, row: int | None) -> Iterator[tuple[Tree, str]]:
-        """The parts of a list of which another in their place moves the fault, and what it is."""
-        parts = tree.items[:row] if row else tree.items
-        for part in parts[1:] if tree.head() else parts:
+    def cured(self, parts: list[Tree], deeper: int = 3) -> list[tuple[list[Tree], Tree, str]]:
+        """The parts of which another in their place moves the fault, and what it is; where there is none, those in the parts.
+
+        Before each stand the lists around it, from these parts on.
+        """
+        found = []
+        for part in parts[1:] if parts and parts[0].word else parts:
             new = self.cure_of(part)
             if new is not None:
-                yield part, new
+                found.append(([], part, new))
+        if found or not deeper:
+            return found
+        for part in parts:
+            found += [([part, *way], tree, new) for way, tree, new in self.cured(part.items, deeper - 1)]
+        return found
+
+    def stands_alone(self, tree: Tree, cure: str | None) -> bool:
+        """Whether a part has a sort by itself, so that only its place is wrong: kids takes it where it is compared with itself."""
+        text = self.text[tree.start:tree.end]
+        return cure is None or self.moves([(tree.start, tree.end, f"(if (eq {text} {text}) {cure} {cure})")])
+
+    def lifted(self, found: Finding) -> Finding:
+        """Of a number or name in a sort that is not allowed the sort, since all its bounds or names may be to blame."""
+        if self.answer[1] == "sort" and found.around and found.tree.word and found.around[-1].head() in ("int", "enum"):
+            return Finding(found.around[-1], found.around[:-1], found.cure, [])
+        return found
 
     def statement_of(self, tree: Tree, row: int | None) -> Tree | None:
         """The first statement in a list with which its row is refused; what stands behind it is cut off from here on."""
@@ -98,7 +118,9 @@ class Blame:
             return None
         statements = tree.items[row:]
         last = statements[-1].end
-        if not self.moves([(statements[0].start, last, "")]):
+        emptied = (statements[0].start, last, "")
+        if not self.moves([emptied]):
+            self.base.append(emptied)
             return None
         for number, statement in enumerate(statements):
             behind = [(statement.end, last, "")] if number + 1 < len(statements) else []

@@ -82,6 +82,8 @@ CASES = [
     Case("not declared", "emit.prog", with_change(SHIFTS, "(emit plan-so-far)", "(emit @plan)")),
     Case("not declared", "inner.prog", with_change(SHIFTS, "(get wish who (set))", "(get @wishes who (set))")),
     Case("not declared", "definition.prog", with_change(QUEENS, "(range 1 (len placed))", "(range 1 @n)")),
+    Case("not declared", "twice.th", with_change(SQUARE, "(mul z z)", "(mul @y y)")),
+    Case("not declared", "both.prog", with_change(SHIFTS, "(if (lt days day)", "(if (and (lt @last day) (le last 7))")),
     Case("unknown operator", "ge.th", with_change(SQUARE, "(le 1 n)", "@(ge n 1)")),
     Case("unknown operator", "typo.prog", with_change(QUEENS, "(snoc placed row)", "@(snok placed row)")),
     Case("unknown operator", "sign.th", with_change(SQUARE, "(mul z z)", "@(* z z)")),

@@ -44,7 +44,8 @@ class Cause:
 @functools.lru_cache(maxsize=1)
 def known_words() -> tuple[str, ...]:
     """The words that have a meaning, as the reference lists them."""
-    text = (TOP / "docs" / "REFERENCE.md").read_text()
+    reference = TOP / "docs" / "REFERENCE.md"
+    text = reference.read_text() if reference.is_file() else ""
     listed = re.search(r"These words are no names:\n\n```text\n(.*?)```", text, re.DOTALL)
     return tuple(listed.group(1).split()) if listed else ()
 
@@ -140,7 +141,7 @@ def word_cause(blame: Blame, finding: Finding, parent: Tree | None) -> Cause:
     if blame.answer[1] in ("form", "version"):
         return form_word_cause(blame, tree)
     where = f" in {shown(blame, parent)}" if parent else ""
-    if SPELLED.fullmatch(word) and word not in ("true", "false") and not stands_alone(blame, finding):
+    if SPELLED.fullmatch(word) and word not in ("true", "false") and not blame.stands_alone(tree, finding.cure):
         return unknown_name(blame, tree)
     if parent is not None and parent.head() == "for":
         return Cause(tree.start, f"for goes over the members of a set, and {word} is none", ["write (range LO HI) for the numbers from LO to HI",
@@ -156,15 +157,6 @@ def word_cause(blame: Blame, finding: Finding, parent: Tree | None) -> Cause:
 def declared_notes(blame: Blame, word: str, tree: Tree) -> list[tuple[int, str]]:
     """Where the name of a word is declared."""
     return [(other.start, f"{word} is declared here") for other in declarations(blame) if other.word == word and other.start < tree.start][-1:]
-
-
-def stands_alone(blame: Blame, finding: Finding) -> bool:
-    """Whether a part has a sort by itself: kids takes it where it is compared with itself."""
-    tree, cure = finding.tree, finding.cure
-    if cure is None:
-        return True
-    text = blame.text[tree.start:tree.end]
-    return blame.moves([(tree.start, tree.end, f"(if (eq {text} {text}) {cure} {cure})")])
 
 
 def unknown_name(blame: Blame, tree: Tree) -> Cause:
@@ -219,7 +211,7 @@ def form_word_cause(blame: Blame, tree: Tree) -> Cause:
 def list_cause(blame: Blame, finding: Finding) -> Cause:
     """Why a list is refused."""
     tree = finding.tree
-    for found in (version_of, head_cause, count_cause, sort_list_cause):
+    for found in (version_of, head_cause, unknown_part, misplaced_cause, count_cause, sort_list_cause):
         told = found(blame, finding)
         if told:
             return told
@@ -227,14 +219,44 @@ def list_cause(blame: Blame, finding: Finding) -> Cause:
     if blame.answer[1] in ("form", "name", "limit") or not tree.items:
         return Cause(tree.start, f"{text}: {MEANINGS.get(blame.answer[1], 'it is refused')}",
                      ["look at the shape of this form in docs/REFERENCE.md", "look for a part too many, too few, or in another order"])
-    if finding.cure is not None and stands_alone(blame, finding):
-        return Cause(tree.start, f"the value of {text} may lie outside of the sort that is wanted here",
-                     ["make the sort that is wanted wider, or that of its parts narrower",
-                      "where the value does fit, put (cast SORT ..) around it, with a test before"])
     parts = " and ".join(shown(blame, part) for part in finding.parts) or "its parts"
     return Cause(tree.start, f"in {text} the sorts of {parts} do not go together",
                  ["give operators arguments of the kinds that they take, and compare values of one kind (docs/OPERATORS.md)",
                   "where a number may leave the limits, make the sorts of the parts smaller"])
+
+
+def unknown_part(blame: Blame, finding: Finding) -> Cause | None:
+    """The first name in a list that is not known there, where it stands more than once."""
+    tree = finding.tree
+    if blame.answer[1] != "sort" or not finding.cure and tree.head() not in ("call", "let", "emit"):
+        return None
+    trees = tree.all_trees()
+    heads = {other.items[0].start for other in trees if other.items}
+    bound = {other.items[1].word for other in trees if other.head() in DECLARES and len(other.items) > 1}
+    for part in trees:
+        word = part.word or ""
+        if SPELLED.fullmatch(word) and part.start not in heads and word not in bound and word not in known_words():
+            new = f"(if (eq {word} {word}) {finding.cure} {finding.cure})" if finding.cure else f"(if (eq {word} {word}))"
+            if not blame.moves([(tree.start, tree.end, new)]):
+                return unknown_name(blame, part)
+    return None
+
+
+def misplaced_cause(blame: Blame, finding: Finding) -> Cause | None:
+    """A term that has a sort, which is not the one that is wanted in its place."""
+    tree, text = finding.tree, shown(blame, finding.tree)
+    if finding.cure is None or blame.answer[1] != "sort" or not blame.stands_alone(tree, finding.cure):
+        return None
+    parent = finding.around[-1].head() if finding.around else ""
+    if parent in ("require", "ensure", "if"):
+        return Cause(tree.start, f"{text} stands where a truth value is due, and is none",
+                     ["compare it, as in (lt 0 n) or (eq n 1)", "look for an operator that was left out around it"])
+    if parent == "for":
+        return Cause(tree.start, f"for goes over the members of a set, and {text} is none",
+                     ["write (range LO HI) for the numbers from LO to HI", "write (items v) for the items of a sequence"])
+    return Cause(tree.start, f"the value of {text} may lie outside of the sort that is wanted here",
+                 ["where the value does fit, put (cast SORT ..) around it, with a test before",
+                  "make the sort that is wanted wider, or those of its parts narrower"])
 
 
 def version_of(blame: Blame, finding: Finding) -> Cause | None:
@@ -257,7 +279,7 @@ def head_cause(blame: Blame, finding: Finding) -> Cause | None:
     if defined or word in known_words() and word not in OTHER_LANGUAGES:
         return None
     others = [*known_words(), "enum", *(form.items[1].word or "" for form in blame.forest if form.head() == "def" and len(form.items) > 1)]
-    like = [other for other in near(word, others) if blame.moves([(head.start, head.end, other)])]
+    like = [] if word in OTHER_LANGUAGES else [other for other in near(word, others) if blame.moves([(head.start, head.end, other)])]
     if not like and not (word in OTHER_LANGUAGES or blame.judge.is_name(word) or not SPELLED.fullmatch(word)):
         return None
     if word in ("enum", "int", "bool") and not like:

@@ -38,7 +38,7 @@ def form_cause(blame: Blame) -> Cause | None:
         return limit_cause(blame, form)
     if blame.answer[1] != "form":
         return None
-    return head_cause(blame, form) or due_before(blame, form) or moved(blame, form) or in_excess(blame, form) or shape_cause(blame, form)
+    return head_cause(blame, form) or due_before(blame, form) or moved(blame, form) or shape_cause(blame, form) or in_excess(blame, form)
 
 
 def head_cause(blame: Blame, form: Tree) -> Cause | None:
@@ -85,7 +85,7 @@ def moved(blame: Blame, form: Tree) -> Cause | None:
 
 def in_excess(blame: Blame, form: Tree) -> Cause | None:
     """A form without which the fault moves on."""
-    same = [other for other in blame.forest if other.head() == form.head() and other is not form]
+    same = [other for other in blame.forest if other.head() == form.head() and other.start < form.start and form.head() not in ("def", "input", "axiom")]
     found = blame.judge.ask(blame.kind, blame.text[:form.start] + blame.text[form.end:])
     is_last = blame.answer[0] == len(blame.forest)
     if not same or not (found == ACCEPTED or found[0] > len(blame.forest) - 1 or not is_last and found[0] >= blame.answer[0] and found[1] != "form"):

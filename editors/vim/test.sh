@@ -70,6 +70,7 @@ call assert_notequal('kids', &filetype, 'another use of .prog')
 " what tools/explain says is a list of errors
 call writefile(['(theory x)', '(require (le 1 2)', '(output z bool)'], 'open.th')
 edit open.th
+set shellpipe=>%s\ 2>&1
 silent make!
 let errors = filter(getqflist(), 'v:val.valid')
 call assert_true(len(errors) > 2, 'a list of errors')
