@@ -63,10 +63,14 @@ def names_in(form: Form) -> set[str]:
 
 @dataclass
 class Test:
-    """A condition that is true where what stands behind it is evaluated, and where it stands."""
+    """A condition that is true where what stands behind it is evaluated, and where it stands.
+
+    `bound` says that it is no test, but that a binder or a `for` takes a name from a set.
+    """
 
     condition: Form
     place: tuple[int, int]
+    bound: bool = False
 
 
 @dataclass
@@ -88,13 +92,18 @@ class Site:
         return set().union(*(words_of(self.term[at]) for at in DECIDED_BY[self.operator]))
 
     def test(self, names: set[str]) -> Test | None:
-        """The nearest test before it that speaks of a name which decides, of these names of values, or none."""
+        """The nearest test before it that speaks of a name which decides, of these names of values, or none.
+
+        Where there is none before a look-up, the nearest set from which a name in it is taken says what may be asked for.
+        """
         deciding = names & self.deciding()
-        return next((test for test in reversed(self.tests) if deciding & words_of(test.condition)), None)
+        near = [test for test in reversed(self.tests) if deciding & words_of(test.condition)]
+        tests = [test for test in near if not test.bound] or [test for test in near if self.operator in ("get", "at")]
+        return tests[0] if tests else None
 
 
 def test_before(term: Form, at: int) -> list[Test]:
-    """The test that stands in a term before its part at a place: none, or one."""
+    """The test that stands in a term or statement before its part at a place: none, or one."""
     head, first = term[0], term[1]
     if not isinstance(first, (Row, Word)):
         return []
@@ -102,6 +111,8 @@ def test_before(term: Form, at: int) -> list[Test]:
         return [Test(first, first.place)]
     if head == "if" and at == 3 or head == "or" and at == 2:
         return [Test(["not", first], first.place)]
+    if head in (*BINDERS, "for") and at == 3:
+        return [Test(["in", first, term[2]], first.place, bound=True)]
     return []
 
 
@@ -130,7 +141,7 @@ def sites_of_row(form: int, row: list[Form], path: Path, first: int, tests: list
         else:
             term_at = 1 if word == "if" else 2
             yield from sites_in(form, statement[term_at], (*here, term_at), tests)
-            inner = [*tests, *test_before(statement, 2)] if word == "if" else tests
+            inner = [*tests, *test_before(statement, term_at + 1)]
             yield from sites_of_row(form, statement, here, term_at + 1, inner)
 
 

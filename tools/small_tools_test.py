@@ -74,24 +74,25 @@ WITHIN = """(program 1)
 (input v (seq (int 0 9) 3))
 (require (or (eq s (set)) (lt 0 (least s 0))))
 (output z (set (int 0 9)))
-(main (emit (image i s (f v i))) (for x s (emit (set (mod x 2)))) (if (eq s (set)) (let y (least s 1)) (emit (set y))))
+(main (emit (image i s (f v i))) (emit (image j s (at v j 0))) (for x s (emit (set (mod x 2)))) (if (eq s (set)) (let y (least s 1)) (emit (set y))))
 (search ())
 """
 # a text, its inputs, and what stands behind the places in the list
 LINT = [
     (DIVIDES, "((map (8 8)) 2) ((map (8 8)) 0)", [
         "2:52: (div a b): no test before it; TAKEN at 1 of 2 inputs, first at ((map (8 8)) 0)",
-        "7:39: (get m z 0): behind (in z (dom m)) of line 7; not at 2 inputs",
+        "7:39: (get m z 0): behind (in z (dom m)) of line 7; not taken at 2 inputs",
         "3 terms: 1 can not by their sorts, 1 did, 1 did not at 2 inputs"]),
     (GROWS, "(2) (3)", [
         "8:22: (cast (seq bool 2) (snoc w true)): no test before it; TAKEN at 1 of 2 inputs, first at (3)",
-        "8:56: (cast (int 0 9) (add i 1)): behind (lt i n) of line 8; not at 2 inputs",
+        "8:56: (cast (int 0 9) (add i 1)): behind (lt i n) of line 8; not taken at 2 inputs",
         "2 terms: 0 can not by their sorts, 1 did, 1 did not at 2 inputs"]),
     (WITHIN, "((set 1 2) (seq 7)) ((set) (seq))", [
-        "2:75: (at v i 9): behind (le i (len v)) of line 2; not at 2 inputs",
-        "5:33: (least s 0): behind (not (eq s (set))) of line 5; not at 2 inputs",
-        "7:91: (least s 1): behind (eq s (set)) of line 7; TAKEN at 1 of 2 inputs, first at ((set) (seq))",
-        "4 terms: 1 can not by their sorts, 1 did, 2 did not at 2 inputs"]),
+        "2:75: (at v i 9): behind (le i (len v)) of line 2; not taken at 2 inputs",
+        "5:33: (least s 0): behind (not (eq s (set))) of line 5; not taken at 2 inputs",
+        "7:51: (at v j 0): behind (in j s) of line 7; TAKEN at 1 of 2 inputs, first at ((set 1 2) (seq 7))",
+        "7:121: (least s 1): behind (eq s (set)) of line 7; TAKEN at 1 of 2 inputs, first at ((set) (seq))",
+        "5 terms: 1 can not by their sorts, 2 did, 2 did not at 2 inputs"]),
 ]
 
 # programs that are cut at each of these depths: an example, the number of the input
