@@ -67,6 +67,15 @@ call assert_notequal('kids', &filetype, 'another use of .sc')
 edit other.prog
 call assert_notequal('kids', &filetype, 'another use of .prog')
 
+" what tools/explain says is a list of errors
+call writefile(['(theory x)', '(require (le 1 2)', '(output z bool)'], 'open.th')
+edit open.th
+set shellpipe=>%s\ 2>&1
+silent make!
+let errors = filter(getqflist(), 'v:val.valid')
+call assert_true(len(errors) > 2, 'a list of errors')
+call assert_equal([2, 1], empty(errors) ? [] : [errors[0].lnum, errors[0].col], 'the bracket that is not closed')
+
 " to indent what is indented changes nothing, and a word has its dashes
 for file in ['words.prog', 'halves.th']
   execute 'edit!' file

@@ -12,4 +12,9 @@ setlocal lisp autoindent expandtab shiftwidth=2
 setlocal lispwords=theory,def,input,output,require,ensure,axiom,program,main,search
 setlocal lispwords+=if,for,let,emit,call,all,some,setof,image,sumof
 
-let b:undo_ftplugin = 'setlocal comments< commentstring< iskeyword< lisp< autoindent< expandtab< shiftwidth< lispwords<'
+" :make lists what tools/explain says of the file; :make OTHER names the theory or program beside inputs or a script
+let s:explain = fnamemodify(resolve(expand('<sfile>:p')), ':h:h:h:h') . '/tools/explain'
+let &l:makeprg = shellescape(s:explain) . ' %:S $*'
+setlocal errorformat=%f:%l:%c:\ %m
+
+let b:undo_ftplugin = 'setlocal comments< commentstring< iskeyword< lisp< autoindent< expandtab< shiftwidth< lispwords< makeprg< errorformat<'
