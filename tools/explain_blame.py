@@ -11,10 +11,11 @@ import dataclasses
 from explain_judge import Answer, Judge
 from explain_text import Tree
 
-# what may stand in the place of a part: truth values, numbers, sets and so on, names, sorts, and parts of forms
-POOL = ["true", "0", "1", "fresh-name", "bool", "(int 0 9)", "(set)", "(seq)", "(map)", "()", "(set 0)", "(set true)", "(pair 0 0)",
-        "(fresh-name bool)", "a", "4611686018427387904", "-4611686018427387904", "(fill (set 0) 0)", "(fill (set 0) (set 0))",
-        "(holds true)", "(given)", "2"]
+# what may stand in the place of a part that has the wrong shape or name, and of one that has the wrong sort
+SHAPES = ["fresh-name", "true", "1", "bool", "()", "(fresh-name bool)", "(given)", "(holds true)"]
+TERMS = ["true", "0", "(set)", "fresh-name", "1", "bool", "(seq)", "(map)", "(set 0)", "(fill (set 0) 0)", "(pair 0 0)",
+         "(set true)",
+         "4611686018427387904", "-4611686018427387904", "a", "(fill (set 0) (set 0))", "()"]
 # at which place of a list its statements begin
 ROWS = {"main": 1, "search": 2, "if": 2, "for": 3}
 Edit = tuple[int, int, str]
@@ -45,13 +46,13 @@ class Blame:
         self.judge, self.kind, self.text, self.forest, self.answer = judge, kind, text, forest, answer
         self.form = forest[answer[0] - 1] if 0 < answer[0] <= len(forest) else None
         self.base: list[Edit] = []
-        self.pool = POOL + self.words_of_file()
+        self.pool = TERMS + self.words_of_form() if answer[1] == "sort" else SHAPES
 
-    def words_of_file(self) -> list[str]:
-        """The names, numbers and tags of the file, those of the form first, not too many."""
-        trees = (self.form.all_trees() if self.form else []) + [tree for form in self.forest for tree in form.all_trees()]
-        words = dict.fromkeys(tree.word for tree in trees if tree.word)
-        return [word for word in words if word not in POOL][:40]
+    def words_of_form(self) -> list[str]:
+        """The names, numbers and tags that are the parts of the form's lists, not too many."""
+        lists = [tree for tree in self.form.all_trees() if tree.items] if self.form else []
+        words = dict.fromkeys(part.word for tree in lists for part in tree.items[1:] if part.word)
+        return [word for word in words if word not in TERMS][:16]
 
     def moves(self, edits: list[Edit]) -> bool:
         """Whether the fault moves further on with these edits."""
@@ -77,7 +78,12 @@ class Blame:
                 around, tree, cure, row = [*around, tree], statement, None, None
                 row = ROWS.get(tree.head()) if tree.head() in ("if", "for") else None
                 continue
-            cured = list(self.cured(tree.items[:row] if row else tree.items))
+            is_pair = bool(around) and not around[-1].head()
+            parts = tree.items[:row] if row else tree.items
+            if self.answer[1] == "cycle" and not around:
+                # under another name the definition would not call itself, but that is no cure
+                parts = parts[:1] + parts[2:]
+            cured = self.cured(parts, is_pair)
             if len(cured) != 1:
                 return self.lifted(Finding(tree, around, cure, [part for _, part, _ in cured]))
             way, tree, cure = [tree, *cured[0][0]], *cured[0][1:]
@@ -85,20 +91,21 @@ class Blame:
             if self.stands_alone(tree, cure):
                 return Finding(tree, around, cure, [])
 
-    def cured(self, parts: list[Tree], deeper: int = 3) -> list[tuple[list[Tree], Tree, str]]:
+    def cured(self, parts: list[Tree], is_pair: bool, deeper: int = 3) -> list[tuple[list[Tree], Tree, str]]:
         """The parts of which another in their place moves the fault, and what it is; where there is none, those in the parts.
 
-        Before each stand the lists around it, from these parts on.
+        Before each stand the lists around it, from these parts on. In a pair of a name and a sort the name is a part too.
         """
         found = []
-        for part in parts[1:] if parts and parts[0].word else parts:
+        for part in parts[1:] if parts and parts[0].word and not is_pair else parts:
             new = self.cure_of(part)
             if new is not None:
                 found.append(([], part, new))
         if found or not deeper:
             return found
         for part in parts:
-            found += [([part, *way], tree, new) for way, tree, new in self.cured(part.items, deeper - 1)]
+            inner = self.cured(part.items, bool(parts) and not parts[0].word, deeper - 1)
+            found += [([part, *way], tree, new) for way, tree, new in inner]
         return found
 
     def stands_alone(self, tree: Tree, cure: str | None) -> bool:
@@ -109,7 +116,7 @@ class Blame:
     def lifted(self, found: Finding) -> Finding:
         """Of a number or name in a sort that is not allowed the sort, since all its bounds or names may be to blame."""
         if self.answer[1] == "sort" and found.around and found.tree.word and found.around[-1].head() in ("int", "enum"):
-            return Finding(found.around[-1], found.around[:-1], found.cure, [])
+            return Finding(found.around[-1], found.around[:-1], self.cure_of(found.around[-1]), [])
         return found
 
     def statement_of(self, tree: Tree, row: int | None) -> Tree | None:

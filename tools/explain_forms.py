@@ -1,4 +1,7 @@
-"""Forms that are missing, too many, or not in their order: kids is asked about the file with forms added, moved and taken away."""
+"""Forms that are missing, too many, or not in their order.
+
+kids is asked about the file with forms added, moved and taken away.
+"""
 from __future__ import annotations
 
 import difflib
@@ -12,9 +15,12 @@ DUE = {"theory": ["(theory fresh-name)", "(require true)", "(output fresh-name b
        "program": ["(program 2)", "(require true)", "(output fresh-name bool)", "(main)", "(search ())"]}
 HEADS = {"theory": ["theory", "def", "input", "require", "axiom", "output", "ensure", "first"],
          "program": ["program", "def", "input", "require", "output", "first", "main", "search"]}
-SHAPES = {"theory": "(theory NAME)", "program": "(program 1) or (program 2)", "def": "(def NAME ((NAME SORT) ..) SORT TERM)",
-          "input": "(input NAME SORT)", "require": "(require TERM)", "output": "(output NAME SORT)", "ensure": "(ensure TERM)",
-          "first": "(first K), with K from 1 to 1000000", "main": "(main STATEMENT ..)", "search": "(search ((NAME SORT) ..) STATEMENT ..)",
+SHAPES = {"theory": "(theory NAME)", "program": "(program 1) or (program 2)",
+          "def": "(def NAME ((NAME SORT) ..) SORT TERM)",
+          "input": "(input NAME SORT)", "require": "(require TERM)", "output": "(output NAME SORT)",
+          "ensure": "(ensure TERM)",
+          "first": "(first K), with K from 1 to 1000000", "main": "(main STATEMENT ..)",
+          "search": "(search ((NAME SORT) ..) STATEMENT ..)",
           "axiom": "(axiom NAME ((NAME SORT) ..) (given TERM ..) (holds TERM)) or (.. (equal TERM TERM))"}
 ORDER = {"theory": "theory, def.., input.., require, axiom.., output, ensure, first",
          "program": "program, def.., input.., require, output, first, main, search"}
@@ -27,8 +33,10 @@ def missing_at_end(blame: Blame) -> Cause:
     for due in DUE[blame.kind]:
         if blame.judge.ask(blame.kind, f"{blame.text}\n{due}\n").is_later(blame.answer):
             head = due[1:].split()[0].rstrip(")")
-            return Cause(at, f"behind this the form {SHAPES[head]} is missing", [f"add {SHAPES[head]}", f"the order is {ORDER[blame.kind]}"])
-    return Cause(at, "behind this a form is missing", [f"the order is {ORDER[blame.kind]}", "look whether the file was cut off"])
+            return Cause(at, f"behind this the form {SHAPES[head]} is missing",
+                         [f"add {SHAPES[head]}", f"the order is {ORDER[blame.kind]}"])
+    return Cause(at, "behind this a form is missing",
+                 [f"the order is {ORDER[blame.kind]}", "look whether the file was cut off"])
 
 
 def form_cause(blame: Blame) -> Cause | None:
@@ -38,7 +46,8 @@ def form_cause(blame: Blame) -> Cause | None:
         return limit_cause(blame, form)
     if blame.answer[1] != "form":
         return None
-    return head_cause(blame, form) or due_before(blame, form) or moved(blame, form) or shape_cause(blame, form) or in_excess(blame, form)
+    return head_cause(blame, form) or due_before(blame, form) or moved(blame, form) or shape_cause(blame,
+                                                                                                   form) or in_excess(blame, form)
 
 
 def head_cause(blame: Blame, form: Tree) -> Cause | None:
@@ -54,7 +63,8 @@ def head_cause(blame: Blame, form: Tree) -> Cause | None:
     cures = [f"did you mean {like[0]}?"] if like else []
     if blame.answer[0] == 1:
         cures = ["look at the order of the words of the command: each file has its place", *cures]
-    return Cause(form.start, f"no form of a {blame.kind} begins with {head}", [*cures, f"the forms are {ORDER[blame.kind]}"][:2])
+    return Cause(form.start, f"no form of a {blame.kind} begins with {head}",
+                 [*cures, f"the forms are {ORDER[blame.kind]}"][:2])
 
 
 def due_before(blame: Blame, form: Tree) -> Cause | None:
@@ -66,7 +76,8 @@ def due_before(blame: Blame, form: Tree) -> Cause | None:
         if found[0] > number + 1 or found[0] == number + 1 and found[1] != "form":
             head = due[1:].split()[0].rstrip(")")
             return Cause(form.start, f"before {named(blame.text, form.start)} the form {SHAPES[head]} is missing",
-                         [f"add {SHAPES[head]} before it" + (", such as (require true)" if head == "require" else ""), f"the order is {ORDER[blame.kind]}"])
+                         [f"add {SHAPES[head]} before it" + (", such as (require true)" if head == "require" else ""),
+                          f"the order is {ORDER[blame.kind]}"])
     return None
 
 
@@ -77,7 +88,8 @@ def moved(blame: Blame, form: Tree) -> Cause | None:
     for other in blame.forest[1:number - 1]:
         found = blame.judge.ask(blame.kind, without[:other.start] + text + "\n" + without[other.start:])
         if found[0] > number or found == ACCEPTED:
-            return Cause(form.start, f"{named(blame.text, form.start)} stands too late: it belongs before {named(blame.text, other.start)}",
+            return Cause(form.start,
+                         f"{named(blame.text, form.start)} stands too late: it belongs before {named(blame.text, other.start)}",
                          [f"move it before {named(blame.text, other.start)}", f"the order is {ORDER[blame.kind]}"],
                          [(other.start, "this stands behind it")])
     return None
@@ -85,18 +97,22 @@ def moved(blame: Blame, form: Tree) -> Cause | None:
 
 def in_excess(blame: Blame, form: Tree) -> Cause | None:
     """A form without which the fault moves on."""
-    same = [other for other in blame.forest if other.head() == form.head() and other.start < form.start and form.head() not in ("def", "input", "axiom")]
+    same = [other for other in blame.forest if other.head() == form.head() and other.start < form.start
+            and form.head() not in ("def", "input", "axiom")]
     found = blame.judge.ask(blame.kind, blame.text[:form.start] + blame.text[form.end:])
     is_last = blame.answer[0] == len(blame.forest)
-    if not same or not (found == ACCEPTED or found[0] > len(blame.forest) - 1 or not is_last and found[0] >= blame.answer[0] and found[1] != "form"):
+    if not same or not (found == ACCEPTED or found[0] > len(blame.forest) - 1 or not is_last
+                        and found[0] >= blame.answer[0] and found[1] != "form"):
         return None
-    return Cause(form.start, f"there is one {named(blame.text, form.start)} too many", ["take one of them away", "put conditions together with (and p q)"],
+    return Cause(form.start, f"there is one {named(blame.text, form.start)} too many",
+                 ["take one of them away", "put conditions together with (and p q)"],
                  [(same[0].start, "another stands here")])
 
 
 def shape_cause(blame: Blame, form: Tree) -> Cause | None:
     """A form with another number of parts than its shape has."""
-    least = {"theory": 2, "program": 2, "def": 5, "input": 3, "require": 2, "output": 3, "ensure": 2, "first": 2, "axiom": 5, "search": 2, "main": 1}
+    least = {"theory": 2, "program": 2, "def": 5, "input": 3, "require": 2, "output": 3, "ensure": 2, "first": 2,
+             "axiom": 5, "search": 2, "main": 1}
     head, count = form.head(), len(form.items)
     exact = head not in ("main", "search")
     if count >= least[head] and (not exact or count == least[head]):
@@ -110,7 +126,10 @@ def shape_cause(blame: Blame, form: Tree) -> Cause | None:
 def limit_cause(blame: Blame, form: Tree) -> Cause | None:
     """A form too many, or a definition whose calls go too deep."""
     if form.head() == "input":
-        return Cause(form.start, "there are more than 16 inputs", ["put some together as a pair, a sequence or a map", "look for inputs that nothing uses"])
+        return Cause(form.start, "there are more than 16 inputs",
+                     ["put some together as a pair, a sequence or a map", "look for inputs that nothing uses"])
     if form.head() == "def" and blame.answer[0] <= 1024:
-        return Cause(form.start, "calls of definitions go more than 16 deep here", ["put a body in the place of a call", "put definitions together"])
-    return Cause(form.start, "there are more than 1,024 forms", ["put definitions together", "put conditions into one with and"])
+        return Cause(form.start, "calls of definitions go more than 16 deep here",
+                     ["put a body in the place of a call", "put definitions together"])
+    return Cause(form.start, "there are more than 1,024 forms",
+                 ["put definitions together", "put conditions into one with and"])

@@ -25,13 +25,13 @@ def program() -> str:
     """The built program: that of KIDS_PROGRAM, that of the repository, or the first on the PATH that is no launcher."""
     named = os.environ.get("KIDS_PROGRAM")
     if named:
-        return named
+        return os.path.abspath(named)
     built = TOP / "crates" / "kids" / "out" / "kids"
     if os.access(built, os.X_OK):
         return str(built)
     found = shutil.which("kids")
     if found and pathlib.Path(found).read_bytes()[:2] != b"#!":
-        return found
+        return os.path.abspath(found)
     raise NoProgram
 
 
@@ -54,6 +54,7 @@ class Judge:
         """Finds the program; `most` is how often it may be asked."""
         self.program = program()
         self.left = most
+        self.asked = 0
         self.known: dict[tuple[str, ...], Answer] = {}
         self.folder = tempfile.TemporaryDirectory(prefix="kids-explain-")
 
@@ -66,6 +67,7 @@ class Judge:
         key = (words, *files.values())
         if key not in self.known:
             self.left -= 1
+            self.asked += 1
             for name, text in files.items():
                 (pathlib.Path(self.folder.name) / name).write_bytes(text.encode("latin-1"))
             ended = subprocess.run([self.program, *words.split()], cwd=self.folder.name, stdin=subprocess.DEVNULL,

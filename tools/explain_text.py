@@ -59,14 +59,14 @@ def line_and_column(text: str, at: int) -> tuple[int, int]:
 def named(text: str, tree_start: int) -> str:
     """What begins at a bracket: its first two words, as they stand."""
     words = re.match(r"\(\s*([^\s();]*)\s*([^\s();]*)", text[tree_start:tree_start + 200])
-    return "(" + " ".join(word for word in words.groups() if word) if words else "("
+    return "(" + " ".join([word for word in words.groups() if word] + ["..)"]) if words else "(..)"
 
 
 def byte_fault(text: str) -> TextFault | None:
     """The first byte that no file may have."""
     if len(text) > MOST_BYTES:
         return TextFault(0, f"the file has {len(text)} bytes, and {MOST_BYTES} are the most",
-                         ["look whether this is the file that you mean", "cut it into parts, as inputs can be"])
+                         ["look whether this is the file that you mean", "cut it into parts, as inputs can be"], kind="large")
     for mark, name in MARKS.items():
         if text.startswith(mark):
             return TextFault(0, f"the file begins with {name}, which is no text of kids",
@@ -87,7 +87,8 @@ def likely_unclosed(text: str, opens: list[int]) -> tuple[list[int], int | None]
         if token.group() == "(":
             begins_line = not text[text.rfind("\n", 0, token.start()) + 1:token.start()].strip()
             head = re.match(r"\(\s*([a-z]+)", text[token.start():token.start() + 60])
-            is_form = begins_line and (line_and_column(text, token.start())[1] == 1 or head and head.group(1) in FORM_HEADS)
+            is_form = begins_line and (line_and_column(text, token.start())[1] == 1 or head
+                                       and head.group(1) in FORM_HEADS)
             if stack and is_form:
                 return stack, token.start()
             stack.append(token.start())
@@ -101,7 +102,8 @@ def unclosed(text: str, opens: list[int]) -> TextFault:
     stack, next_form = likely_unclosed(text, opens)
     missing = len(stack) if next_form is not None else len(opens)
     what = f"the bracket of {named(text, stack[0])} is not closed: {missing} closing bracket{'s are' * (missing > 1) or ' is'} missing"
-    fault = TextFault(stack[0], what, ["close it before the next form begins", "look for a closing bracket that a comment hides"],
+    fault = TextFault(stack[0], what,
+                      ["close it before the next form begins", "look for a closing bracket that a comment hides"],
                       kind="unclosed")
     if next_form is not None:
         fault.notes.append((next_form, f"{named(text, next_form)} begins here, still within it"))
@@ -126,7 +128,8 @@ def read(text: str) -> tuple[list[Tree], TextFault | None]:
             opens.append(Tree(start, end))
             if len(opens) > MOST_OPEN:
                 return forest, TextFault(start, f"more than {MOST_OPEN} brackets are open here",
-                                         ["make definitions of parts of the term", "look for brackets that are not closed"])
+                                         ["make definitions of parts of the term",
+                                          "look for brackets that are not closed"])
             continue
         elif word[0] == ";":
             continue
