@@ -1,3 +1,7 @@
+pub mod Differ
+pub mod IsTheory
 pub mod LawCode
 pub mod LawView
+pub mod SortedLaw
 pub mod TheoryView
+pub mod Wordless

@@ -2,8 +2,10 @@
 #![tactic(auto)]
 
 mod law;
+mod sorted;
 mod theory;
 
 pub use kid_term::{RefineForm, Spec, Why};
 pub use law::{Axiom, Axioms, Conclusion, Law, Laws};
+pub use sorted::is_sorted_axiom;
 pub use theory::Theory;

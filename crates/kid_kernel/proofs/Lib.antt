@@ -1,0 +1,2 @@
+pub mod CommonSorts
+pub mod Differing
