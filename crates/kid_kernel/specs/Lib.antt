@@ -3,5 +3,6 @@ pub mod IsTheory
 pub mod LawCode
 pub mod LawView
 pub mod SortedLaw
+pub mod TheoryExamples
 pub mod TheoryView
 pub mod Wordless
