@@ -2,6 +2,7 @@
 use Rattle.std.proofs.Common.{◌≡◌, ◌⊎◌, inl, inr, ℕ, ℤ, Bool, true, false, List, [], ◌∷◌, Option, Some, None, refl, sym, ap, ◌∙◌}
 use Rattle.std.specs.Prelude.{◌&&◌, ◌||◌, option_map, if◌then◌else◌}
 use Rattle.std.specs.Fmt.{signed_decimal}
+use Rattle.std.specs.List.{list_all}
 use Rattle.std.specs.Str.{bytes_eq}
 use Rattle.std.specs.Str.Parse.{signed_digits_value}
 use Rattle.kid_value.specs.SortOrder.{both}
@@ -50,6 +51,15 @@ first_with-word word (y ∷ ys) w x p =
     elim (if_else (bytes_eq w (word y)) (Some y) (first_with word ys w) x p) [
       | inl r ↦ bytes_eq-true w (word y) r.0 ∙ ap word (same_some y x r.1)
       | inr r ↦ first_with-word word ys w x r.1
+    ]
+
+pub first_with-all : {A : Type 0} (word : A → List ℕ) (test : A → Bool) (xs : List A) (w : List ℕ) (x : A) → first_with word xs w ≡ Some x → list_all test xs ≡ true → test x ≡ true
+first_with-all word test [] w x p h = cc
+first_with-all word test (y ∷ ys) w x p h =
+    let r = and_parts (test y) (list_all test ys) h in
+    elim (if_else (bytes_eq w (word y)) (Some y) (first_with word ys w) x p) [
+      | inl q ↦ ap test (sym (same_some y x q.1)) ∙ r.0
+      | inr q ↦ first_with-all word test ys w x q.1 r.1
     ]
 
 pub number_from : (w : List ℕ) (n : ℤ) → number_of w ≡ Some n → (w ≡ signed_decimal n) × (in_limits n ≡ true)

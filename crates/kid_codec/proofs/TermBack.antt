@@ -1,6 +1,6 @@
 -- The tree of a term reads back to it.
-use Rattle.std.proofs.Common.{◌≡◌, ℕ, ℤ, Bool, true, false, List, ◌∷◌, length, Option, Some, None, Ok, Err, refl, ap, ◌∙◌, arith}
-use Rattle.std.specs.Prelude.{◌&&◌, ◌==◌, nat_le, not, option_map, if◌then◌else◌, codes}
+use Rattle.std.proofs.Common.{◌≡◌, ℕ, ℤ, Bool, true, false, List, ◌∷◌, length, Option, Some, None, Ok, Err, refl, sym, ap, ◌∙◌, arith}
+use Rattle.std.specs.Prelude.{◌&&◌, ◌==◌, nat_le, not, is_some, option_map, if◌then◌else◌, codes}
 use Rattle.std.specs.List.{list_all}
 use Rattle.std.specs.Fmt.{signed_decimal}
 use Rattle.std.specs.Str.{bytes_eq}
@@ -9,15 +9,7 @@ use Rattle.kid_sexp.specs.Plain.{more, one}
 use Rattle.kid_value.specs.SortOrder.{both}
 use Rattle.kid_value.specs.SortLimits.{in_limits}
 use Rattle.kid_value.proofs.SortLemmas.{and_parts, and_both}
-use Rattle.kid_term.specs.declared.operator.LogicOp.TheVariants as logic
-use Rattle.kid_term.specs.declared.operator.NumberOp.TheVariants as num
-use Rattle.kid_term.specs.declared.operator.PairOp.TheVariants as pair_op
-use Rattle.kid_term.specs.declared.operator.SetOp.TheVariants as set_op
-use Rattle.kid_term.specs.declared.operator.SeqOp.TheVariants as seq_op
-use Rattle.kid_term.specs.declared.operator.MapOp.TheVariants as map_op
-use Rattle.kid_term.specs.declared.operator.WordOp.TheVariants as word_op
 use Rattle.kid_term.specs.declared.operator.Op.{Op}
-use Rattle.kid_term.specs.declared.operator.Op.TheVariants.{Logic, Number, Pair, Set, Seq, Map, Word}
 use Rattle.kid_term.specs.declared.operator.Binder.{Binder}
 use Rattle.kid_term.specs.declared.operator.Binder.TheVariants as binder
 use Rattle.kid_term.specs.PlainTerm.{PlainHead, op, call, cast, PlainTerm, var, number, truth, tag, app, bind, PlainTerms, no_term, term, terms, term_row}
@@ -27,207 +19,32 @@ use Rattle.kid_codec.specs.Number.{number_of}
 use Rattle.kid_codec.specs.Reading.{judged, ◌>>=◌}
 use Rattle.kid_codec.specs.SortSpelling.{sort_spelling, is_spelled_sort}
 use Rattle.kid_codec.specs.TermSpelling.{term_spelling, term_spellings, is_spelled_head, is_spelled_term, are_spelled_terms, is_allowed_head, casts_are_allowed, all_casts_are_allowed, suits, called, casted, headed_by, term_of_parts, body_of, spelled_term, spelled_terms, spelled_cast, spelled_body, term_reading}
-use Rattle.kid_codec.specs.Word.{word_of, binder_word, op_of, binder_of}
+use Rattle.kid_codec.specs.Word.{operator_word, binder_word, op_of, binder_of}
 use Rattle.kid_codec.specs.declared.fault.CodecFault.TheVariants as fault
 use Rattle.kid_codec.proofs.Numbers.{number_of-decimal, no_letter}
 use Rattle.kid_codec.proofs.SortBack.{spelled_parts}
 use Rattle.kid_codec.proofs.NameLemmas.{tag_term_read}
 use Rattle.kid_codec.proofs.ValueBack.{number_no_word, number_no_tag}
-use Rattle.kid_codec.proofs.Words.{op_of-word, binder_of-word}
+use Rattle.kid_codec.proofs.Words.{op_of-word, binder_of-word, of_each}
 
-op_no_name : (o : Op) → is_name (word_of o) ≡ false
+refused : (b : Bool) → not b ≡ true → b ≡ false
+refused false h = refl
+refused true h = sym h
+
+op_no_name : (o : Op) → is_name (operator_word o) ≡ false
 unfolding is_reserved
-op_no_name (Logic logic.Not) = refl
-op_no_name (Logic logic.And) = refl
-op_no_name (Logic logic.Or) = refl
-op_no_name (Logic logic.Implies) = refl
-op_no_name (Logic logic.If) = refl
-op_no_name (Logic logic.Eq) = refl
-op_no_name (Number num.Le) = refl
-op_no_name (Number num.Lt) = refl
-op_no_name (Number num.Add) = refl
-op_no_name (Number num.Sub) = refl
-op_no_name (Number num.Neg) = refl
-op_no_name (Number num.Mul) = refl
-op_no_name (Number num.Div) = refl
-op_no_name (Number num.Mod) = refl
-op_no_name (Number num.Min) = refl
-op_no_name (Number num.Max) = refl
-op_no_name (Pair pair_op.Pair) = refl
-op_no_name (Pair pair_op.Fst) = refl
-op_no_name (Pair pair_op.Snd) = refl
-op_no_name (Set set_op.Set) = refl
-op_no_name (Set set_op.Range) = refl
-op_no_name (Set set_op.In) = refl
-op_no_name (Set set_op.Subset) = refl
-op_no_name (Set set_op.Union) = refl
-op_no_name (Set set_op.With) = refl
-op_no_name (Set set_op.Inter) = refl
-op_no_name (Set set_op.Diff) = refl
-op_no_name (Set set_op.Without) = refl
-op_no_name (Set set_op.Card) = refl
-op_no_name (Set set_op.Sum) = refl
-op_no_name (Set set_op.Least) = refl
-op_no_name (Seq seq_op.Seq) = refl
-op_no_name (Seq seq_op.Len) = refl
-op_no_name (Seq seq_op.At) = refl
-op_no_name (Seq seq_op.Snoc) = refl
-op_no_name (Seq seq_op.Rest) = refl
-op_no_name (Seq seq_op.Items) = refl
-op_no_name (Seq seq_op.Total) = refl
-op_no_name (Seq seq_op.Prefix) = refl
-op_no_name (Map map_op.Map) = refl
-op_no_name (Map map_op.Dom) = refl
-op_no_name (Map map_op.Ran) = refl
-op_no_name (Map map_op.Get) = refl
-op_no_name (Map map_op.Put) = refl
-op_no_name (Map map_op.Drop) = refl
-op_no_name (Map map_op.Fill) = refl
-op_no_name (Map map_op.Submap) = refl
-op_no_name (Map map_op.Fits) = refl
-op_no_name (Map map_op.Narrow) = refl
-op_no_name (Word word_op.Wenc) = refl
-op_no_name (Word word_op.Wdec) = refl
-op_no_name (Word word_op.Wor) = refl
-op_no_name (Word word_op.Wand) = refl
-op_no_name (Word word_op.Wnot) = refl
-op_no_name (Word word_op.Wcard) = refl
-op_no_name (Word word_op.Win) = refl
-op_no_name (Word word_op.Wleast) = refl
-op_no_name (Word word_op.Renc) = refl
-op_no_name (Word word_op.Rdec) = refl
-op_no_name (Word word_op.Rget) = refl
-op_no_name (Word word_op.Rput) = refl
-op_no_name (Word word_op.Rdrop) = refl
+op_no_name o = refused (is_name (operator_word o)) (of_each (λ o. not (is_name (operator_word o))) refl o)
 
-op_no_cast : (o : Op) → bytes_eq (word_of o) (codes "cast") ≡ false
-op_no_cast (Logic logic.Not) = refl
-op_no_cast (Logic logic.And) = refl
-op_no_cast (Logic logic.Or) = refl
-op_no_cast (Logic logic.Implies) = refl
-op_no_cast (Logic logic.If) = refl
-op_no_cast (Logic logic.Eq) = refl
-op_no_cast (Number num.Le) = refl
-op_no_cast (Number num.Lt) = refl
-op_no_cast (Number num.Add) = refl
-op_no_cast (Number num.Sub) = refl
-op_no_cast (Number num.Neg) = refl
-op_no_cast (Number num.Mul) = refl
-op_no_cast (Number num.Div) = refl
-op_no_cast (Number num.Mod) = refl
-op_no_cast (Number num.Min) = refl
-op_no_cast (Number num.Max) = refl
-op_no_cast (Pair pair_op.Pair) = refl
-op_no_cast (Pair pair_op.Fst) = refl
-op_no_cast (Pair pair_op.Snd) = refl
-op_no_cast (Set set_op.Set) = refl
-op_no_cast (Set set_op.Range) = refl
-op_no_cast (Set set_op.In) = refl
-op_no_cast (Set set_op.Subset) = refl
-op_no_cast (Set set_op.Union) = refl
-op_no_cast (Set set_op.With) = refl
-op_no_cast (Set set_op.Inter) = refl
-op_no_cast (Set set_op.Diff) = refl
-op_no_cast (Set set_op.Without) = refl
-op_no_cast (Set set_op.Card) = refl
-op_no_cast (Set set_op.Sum) = refl
-op_no_cast (Set set_op.Least) = refl
-op_no_cast (Seq seq_op.Seq) = refl
-op_no_cast (Seq seq_op.Len) = refl
-op_no_cast (Seq seq_op.At) = refl
-op_no_cast (Seq seq_op.Snoc) = refl
-op_no_cast (Seq seq_op.Rest) = refl
-op_no_cast (Seq seq_op.Items) = refl
-op_no_cast (Seq seq_op.Total) = refl
-op_no_cast (Seq seq_op.Prefix) = refl
-op_no_cast (Map map_op.Map) = refl
-op_no_cast (Map map_op.Dom) = refl
-op_no_cast (Map map_op.Ran) = refl
-op_no_cast (Map map_op.Get) = refl
-op_no_cast (Map map_op.Put) = refl
-op_no_cast (Map map_op.Drop) = refl
-op_no_cast (Map map_op.Fill) = refl
-op_no_cast (Map map_op.Submap) = refl
-op_no_cast (Map map_op.Fits) = refl
-op_no_cast (Map map_op.Narrow) = refl
-op_no_cast (Word word_op.Wenc) = refl
-op_no_cast (Word word_op.Wdec) = refl
-op_no_cast (Word word_op.Wor) = refl
-op_no_cast (Word word_op.Wand) = refl
-op_no_cast (Word word_op.Wnot) = refl
-op_no_cast (Word word_op.Wcard) = refl
-op_no_cast (Word word_op.Win) = refl
-op_no_cast (Word word_op.Wleast) = refl
-op_no_cast (Word word_op.Renc) = refl
-op_no_cast (Word word_op.Rdec) = refl
-op_no_cast (Word word_op.Rget) = refl
-op_no_cast (Word word_op.Rput) = refl
-op_no_cast (Word word_op.Rdrop) = refl
+op_no_cast : (o : Op) → bytes_eq (operator_word o) (codes "cast") ≡ false
+op_no_cast o = refused (bytes_eq (operator_word o) (codes "cast")) (of_each (λ o. not (bytes_eq (operator_word o) (codes "cast"))) refl o)
 
-op_no_binder : (o : Op) → binder_of (word_of o) ≡ None
+no_binder : (b : Option Binder) → not (is_some b) ≡ true → b ≡ None
+no_binder None h = refl
+no_binder (Some b) h = cc
+
+op_no_binder : (o : Op) → binder_of (operator_word o) ≡ None
 unfolding binder_of
-op_no_binder (Logic logic.Not) = refl
-op_no_binder (Logic logic.And) = refl
-op_no_binder (Logic logic.Or) = refl
-op_no_binder (Logic logic.Implies) = refl
-op_no_binder (Logic logic.If) = refl
-op_no_binder (Logic logic.Eq) = refl
-op_no_binder (Number num.Le) = refl
-op_no_binder (Number num.Lt) = refl
-op_no_binder (Number num.Add) = refl
-op_no_binder (Number num.Sub) = refl
-op_no_binder (Number num.Neg) = refl
-op_no_binder (Number num.Mul) = refl
-op_no_binder (Number num.Div) = refl
-op_no_binder (Number num.Mod) = refl
-op_no_binder (Number num.Min) = refl
-op_no_binder (Number num.Max) = refl
-op_no_binder (Pair pair_op.Pair) = refl
-op_no_binder (Pair pair_op.Fst) = refl
-op_no_binder (Pair pair_op.Snd) = refl
-op_no_binder (Set set_op.Set) = refl
-op_no_binder (Set set_op.Range) = refl
-op_no_binder (Set set_op.In) = refl
-op_no_binder (Set set_op.Subset) = refl
-op_no_binder (Set set_op.Union) = refl
-op_no_binder (Set set_op.With) = refl
-op_no_binder (Set set_op.Inter) = refl
-op_no_binder (Set set_op.Diff) = refl
-op_no_binder (Set set_op.Without) = refl
-op_no_binder (Set set_op.Card) = refl
-op_no_binder (Set set_op.Sum) = refl
-op_no_binder (Set set_op.Least) = refl
-op_no_binder (Seq seq_op.Seq) = refl
-op_no_binder (Seq seq_op.Len) = refl
-op_no_binder (Seq seq_op.At) = refl
-op_no_binder (Seq seq_op.Snoc) = refl
-op_no_binder (Seq seq_op.Rest) = refl
-op_no_binder (Seq seq_op.Items) = refl
-op_no_binder (Seq seq_op.Total) = refl
-op_no_binder (Seq seq_op.Prefix) = refl
-op_no_binder (Map map_op.Map) = refl
-op_no_binder (Map map_op.Dom) = refl
-op_no_binder (Map map_op.Ran) = refl
-op_no_binder (Map map_op.Get) = refl
-op_no_binder (Map map_op.Put) = refl
-op_no_binder (Map map_op.Drop) = refl
-op_no_binder (Map map_op.Fill) = refl
-op_no_binder (Map map_op.Submap) = refl
-op_no_binder (Map map_op.Fits) = refl
-op_no_binder (Map map_op.Narrow) = refl
-op_no_binder (Word word_op.Wenc) = refl
-op_no_binder (Word word_op.Wdec) = refl
-op_no_binder (Word word_op.Wor) = refl
-op_no_binder (Word word_op.Wand) = refl
-op_no_binder (Word word_op.Wnot) = refl
-op_no_binder (Word word_op.Wcard) = refl
-op_no_binder (Word word_op.Win) = refl
-op_no_binder (Word word_op.Wleast) = refl
-op_no_binder (Word word_op.Renc) = refl
-op_no_binder (Word word_op.Rdec) = refl
-op_no_binder (Word word_op.Rget) = refl
-op_no_binder (Word word_op.Rput) = refl
-op_no_binder (Word word_op.Rdrop) = refl
+op_no_binder o = no_binder (binder_of (operator_word o)) (of_each (λ o. not (is_some (binder_of (operator_word o)))) refl o)
 
 binder_no_name : (b : Binder) → is_name (binder_word b) ≡ false
 unfolding is_reserved
@@ -273,13 +90,13 @@ counted : (m n : ℕ) → (m == n) ≡ true → m ≡ n
 counted m n p = grind (arith, nat_tests)
 
 op_read : (o : Op) (ts : PlainTerms) (cast_term : Option PlainTerm) (body : Option (Binder → PlainTerm)) → suits o (terms ts) ≡ true
-    → term_of_parts (word_of o) (Some (terms ts)) cast_term body ≡ Some (app (op o) ts)
+    → term_of_parts (operator_word o) (Some (terms ts)) cast_term body ≡ Some (app (op o) ts)
 op_read o ts cast_term body h =
     let p = op_no_name o in
     let q = op_no_cast o in
     let r = op_no_binder o in
     let s = op_of-word o in
-    (λ i. if p i then Some (called (word_of o) (terms ts)) else (if q i then cast_term else headed_by (r i) (s i) (Some (terms ts)) body))
+    (λ i. if p i then Some (called (operator_word o) (terms ts)) else (if q i then cast_term else headed_by (r i) (s i) (Some (terms ts)) body))
     ∙ ap (λ (b : Bool). if b then Some (app (op o) (term_row (terms ts))) else None) h ∙ ap (λ (us : PlainTerms). Some (app (op o) us)) (row_terms ts)
 
 call_read : (f : List ℕ) (ts : PlainTerms) (cast_term : Option PlainTerm) (body : Option (Binder → PlainTerm)) → is_name f ≡ true
@@ -319,7 +136,7 @@ mutual
   term_back (tag n) h = tag_term_read n h
   term_back (app (op o) ts) h =
       let r = and_parts (suits o (terms ts)) (are_spelled_terms ts) h in
-      ap (λ (us : Option (List PlainTerm)). term_of_parts (word_of o) us (spelled_cast (term_spellings ts)) (spelled_body (term_spellings ts))) (terms_back ts r.1)
+      ap (λ (us : Option (List PlainTerm)). term_of_parts (operator_word o) us (spelled_cast (term_spellings ts)) (spelled_body (term_spellings ts))) (terms_back ts r.1)
       ∙ op_read o ts (spelled_cast (term_spellings ts)) (spelled_body (term_spellings ts)) r.0
   term_back (app (call f) ts) h =
       let r = and_parts (is_name f) (are_spelled_terms ts) h in

@@ -17,7 +17,7 @@ use Rattle.kid_codec.specs.Number.{number_of}
 use Rattle.kid_codec.specs.Reading.{◌>>=◌}
 use Rattle.kid_codec.specs.SortSpelling.{is_spelled_sort, spelled_sort}
 use Rattle.kid_codec.specs.TermSpelling.{term_spelling, term_spellings, is_spelled_term, are_spelled_terms, casts_are_allowed, all_casts_are_allowed, applied, suits, called, casted, headed_by, term_of_parts, body_of, atom_term, spelled_term, spelled_list, spelled_terms, spelled_cast, spelled_body}
-use Rattle.kid_codec.specs.Word.{word_of, binder_word, op_of, binder_of}
+use Rattle.kid_codec.specs.Word.{operator_word, binder_word, op_of, binder_of}
 use Rattle.kid_codec.proofs.Numbers.{bytes_eq-true}
 use Rattle.kid_codec.proofs.Found.{same_some, if_some, if_else, mapped, both_some, bind_some, number_from}
 use Rattle.kid_codec.proofs.Words.{op_of-told, binder_of-told}
@@ -80,7 +80,7 @@ call_told w ts u f n p h =
     subst (TermTold (list (tree.more (atom w) ts))) m.2
     (record { tree = λ i. list (tree.more (atom w) (e i)); spelled = and_both (is_name w) (are_spelled_terms (term_row us)) n k.spelled })
 
-op_told : (w : List ℕ) (ts : Plains) (o : Op) (u : PlainTerm) → TellsTerms ts → w ≡ word_of o → (spelled_terms ts >>= applied o) ≡ Some u → casts_are_allowed u ≡ true → TermTold (list (tree.more (atom w) ts)) u
+op_told : (w : List ℕ) (ts : Plains) (o : Op) (u : PlainTerm) → TellsTerms ts → w ≡ operator_word o → (spelled_terms ts >>= applied o) ≡ Some u → casts_are_allowed u ≡ true → TermTold (list (tree.more (atom w) ts)) u
 op_told w ts o u f q p h =
     let m = bind_some (spelled_terms ts) (applied o) u p in
     let us : List PlainTerm = m.0 in

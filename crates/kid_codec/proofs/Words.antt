@@ -1,8 +1,9 @@
--- Words and what has them.
-use Rattle.std.proofs.Common.{◌≡◌, ℕ, List, Option, Some, None, refl, sym}
+-- Words and what has them. Each operator is found in the list of all operators; what else is shown of each goes through that list.
+use Rattle.std.proofs.Common.{◌≡◌, ℕ, Bool, true, List, Option, Some, None, refl, sym}
 use Rattle.std.specs.Prelude.{IfSome}
+use Rattle.std.specs.List.{list_all}
 use Rattle.kid_codec.specs.declared.word.TheConstants.{OPERATORS, BINDERS}
-use Rattle.kid_codec.proofs.Found.{first_with-word}
+use Rattle.kid_codec.proofs.Found.{first_with-word, first_with-all}
 use Rattle.kid_term.specs.declared.operator.LogicOp.TheVariants as logic
 use Rattle.kid_term.specs.declared.operator.NumberOp.TheVariants as num
 use Rattle.kid_term.specs.declared.operator.PairOp.TheVariants as pair_op
@@ -14,9 +15,9 @@ use Rattle.kid_term.specs.declared.operator.Op.{Op}
 use Rattle.kid_term.specs.declared.operator.Op.TheVariants.{Logic, Number, Pair, Set, Seq, Map, Word}
 use Rattle.kid_term.specs.declared.operator.Binder.{Binder}
 use Rattle.kid_term.specs.declared.operator.Binder.TheVariants as binder
-use Rattle.kid_codec.specs.Word.{word_of, op_of, binder_word, binder_of}
+use Rattle.kid_codec.specs.Word.{operator_word, op_of, binder_word, binder_of}
 
-pub op_of-word : (o : Op) → op_of (word_of o) ≡ Some o
+pub op_of-word : (o : Op) → op_of (operator_word o) ≡ Some o
 unfolding op_of
 op_of-word (Logic logic.Not) = refl
 op_of-word (Logic logic.And) = refl
@@ -81,6 +82,11 @@ op_of-word (Word word_op.Rget) = refl
 op_of-word (Word word_op.Rput) = refl
 op_of-word (Word word_op.Rdrop) = refl
 
+-- what the list's operators pass, each operator passes
+pub of_each : (test : Op → Bool) → list_all test OPERATORS ≡ true → (o : Op) → test o ≡ true
+unfolding op_of
+of_each test each o = first_with-all operator_word test OPERATORS (operator_word o) o (op_of-word o) each
+
 pub binder_of-word : (b : Binder) → binder_of (binder_word b) ≡ Some b
 unfolding binder_of
 binder_of-word binder.All = refl
@@ -90,15 +96,15 @@ binder_of-word binder.Image = refl
 binder_of-word binder.SumOf = refl
 
 -- an operator that is found has the word, and so has a binder
-pub op_of-told : (w : List ℕ) (o : Op) → op_of w ≡ Some o → w ≡ word_of o
+pub op_of-told : (w : List ℕ) (o : Op) → op_of w ≡ Some o → w ≡ operator_word o
 unfolding op_of
-op_of-told w o p = first_with-word word_of OPERATORS w o p
+op_of-told w o p = first_with-word operator_word OPERATORS w o p
 
 pub binder_of-told : (w : List ℕ) (b : Binder) → binder_of w ≡ Some b → w ≡ binder_word b
 unfolding binder_of
 binder_of-told w b p = first_with-word binder_word BINDERS w b p
 
-pub op_found : (o : Option Op) (w : List ℕ) → o ≡ op_of w → IfSome o (λ p. w ≡ word_of p)
+pub op_found : (o : Option Op) (w : List ℕ) → o ≡ op_of w → IfSome o (λ p. w ≡ operator_word p)
 op_found None w h = tt
 op_found (Some o) w h = op_of-told w o (sym h)
 

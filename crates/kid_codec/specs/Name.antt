@@ -1,7 +1,7 @@
 -- Names, and the words that are none.
 use Rattle.std.specs.Prelude.{ℕ, Bool, false, not, ◌&&◌, ◌||◌, ◌==◌, nat_le, List, [], ◌∷◌, length}
 use Rattle.std.specs.List.{list_all}
-use Rattle.std.specs.Str.{bytes_eq}
+use Rattle.kid_value.specs.NameSet.{is_among}
 use Rattle.kid_codec.specs.Reserved.{reserved_words}
 
 abbrev pub is_letter : ℕ → Bool
@@ -13,10 +13,6 @@ is_digit c = nat_le 48 c && nat_le c 57
 abbrev pub is_name_byte : ℕ → Bool
 is_name_byte c = is_letter c || is_digit c || c == 45
 
-abbrev pub is_among : List (List ℕ) → List ℕ → Bool
-is_among [] word = false
-is_among (r ∷ rs) word = bytes_eq r word || is_among rs word
-
 abbrev pub starts_rule : ℕ → Bool
 starts_rule c = c == 101 || c == 109 || c == 98
 
@@ -26,7 +22,7 @@ is_rule_number [] = false
 is_rule_number (c ∷ cs) = starts_rule c && not (length cs == 0) && list_all is_digit cs
 
 unfoldable pub is_reserved : List ℕ → Bool
-is_reserved word = is_among reserved_words word || is_rule_number word
+is_reserved word = is_among word reserved_words || is_rule_number word
 
 abbrev pub starts_with_letter : List ℕ → Bool
 starts_with_letter [] = false

@@ -1,5 +1,5 @@
 -- What a reader answered, against what there is to read.
-use Rattle.std.specs.Prelude.{◌≡◌, Bool, Option, Some, None, Result, Ok, Err, ⊤, if◌then◌else◌}
+use Rattle.std.specs.Prelude.{◌≡◌, Bool, Option, Some, None, option_and_then, Result, Ok, Err, ⊤, if◌then◌else◌}
 use Rattle.kid_codec.specs.declared.fault.CodecFault.{CodecFault}
 use Rattle.kid_codec.specs.declared.fault.CodecFault.TheVariants.{Form, Sort, Memory}
 
@@ -35,5 +35,4 @@ Finds view (Err fault) spelled = Misses fault spelled
 
 infixl 10 ◌>>=◌
 abbrev pub ◌>>=◌ : {A B : Type 0} → Option A → (A → Option B) → Option B
-(Some x) >>= f = f x
-None >>= f = None
+o >>= f = option_and_then f o

@@ -53,15 +53,15 @@ map_takes map_op.Get n = n == 3
 map_takes map_op.Put n = n == 3
 map_takes o n = n == 2
 
-abbrev pub row_takes : WordOp → ℕ → Bool
-row_takes word_op.Wcard n = n == 1
-row_takes word_op.Wor n = n == 2
-row_takes word_op.Wand n = n == 2
-row_takes word_op.Wnot n = n == 2
-row_takes word_op.Rdec n = n == 2
-row_takes word_op.Rget n = n == 4
-row_takes word_op.Rput n = n == 4
-row_takes o n = n == 3
+abbrev pub word_operator_takes : WordOp → ℕ → Bool
+word_operator_takes word_op.Wcard n = n == 1
+word_operator_takes word_op.Wor n = n == 2
+word_operator_takes word_op.Wand n = n == 2
+word_operator_takes word_op.Wnot n = n == 2
+word_operator_takes word_op.Rdec n = n == 2
+word_operator_takes word_op.Rget n = n == 4
+word_operator_takes word_op.Rput n = n == 4
+word_operator_takes o n = n == 3
 
 abbrev pub takes : Op → ℕ → Bool
 takes (Logic o) n = logic_takes o n
@@ -70,19 +70,19 @@ takes (Pair o) n = pair_takes o n
 takes (Set o) n = set_takes o n
 takes (Seq o) n = seq_takes o n
 takes (Map o) n = map_takes o n
-takes (Word o) n = row_takes o n
+takes (Word o) n = word_operator_takes o n
 
 -- how many arguments of an operator, which stand first, are written as numbers
-abbrev pub row_numbers : WordOp → ℕ
-row_numbers word_op.Wenc = 2
-row_numbers word_op.Wdec = 2
-row_numbers word_op.Renc = 2
-row_numbers word_op.Wor = 0
-row_numbers word_op.Wand = 0
-row_numbers word_op.Wnot = 0
-row_numbers word_op.Wcard = 0
-row_numbers o = 1
+abbrev pub word_operator_numbers : WordOp → ℕ
+word_operator_numbers word_op.Wenc = 2
+word_operator_numbers word_op.Wdec = 2
+word_operator_numbers word_op.Renc = 2
+word_operator_numbers word_op.Wor = 0
+word_operator_numbers word_op.Wand = 0
+word_operator_numbers word_op.Wnot = 0
+word_operator_numbers word_op.Wcard = 0
+word_operator_numbers o = 1
 
 abbrev pub numbers_first : Op → ℕ
-numbers_first (Word o) = row_numbers o
+numbers_first (Word o) = word_operator_numbers o
 numbers_first o = 0

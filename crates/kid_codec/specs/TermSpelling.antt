@@ -16,13 +16,13 @@ use Rattle.kid_codec.specs.Number.{number_of}
 use Rattle.kid_codec.specs.Reading.{judged, ◌>>=◌}
 use Rattle.kid_codec.specs.SortSpelling.{number_tree, headed, sort_spelling, is_spelled_sort, spelled_sort}
 use Rattle.kid_codec.specs.ValueSpelling.{truth_word}
-use Rattle.kid_codec.specs.Word.{word_of, binder_word, op_of, binder_of}
+use Rattle.kid_codec.specs.Word.{operator_word, binder_word, op_of, binder_of}
 use Rattle.kid_codec.specs.Takes.{takes, numbers_first}
 use Rattle.kid_codec.specs.declared.fault.CodecFault.{CodecFault}
 
 -- the trees of a head, which stand before those of its arguments
 abbrev pub head_spelling : PlainHead → Plains
-head_spelling (op o) = one (atom (word_of o))
+head_spelling (op o) = one (atom (operator_word o))
 head_spelling (call f) = one (atom f)
 head_spelling (cast s) = tree.more (atom (codes "cast")) (one (sort_spelling s))
 

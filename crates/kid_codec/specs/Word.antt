@@ -82,29 +82,29 @@ map_word map_op.Submap = codes "submap"
 map_word map_op.Fits = codes "fits"
 map_word map_op.Narrow = codes "narrow"
 
-abbrev pub row_word : WordOp → List ℕ
-row_word word_op.Wenc = codes "wenc"
-row_word word_op.Wdec = codes "wdec"
-row_word word_op.Wor = codes "wor"
-row_word word_op.Wand = codes "wand"
-row_word word_op.Wnot = codes "wnot"
-row_word word_op.Wcard = codes "wcard"
-row_word word_op.Win = codes "win"
-row_word word_op.Wleast = codes "wleast"
-row_word word_op.Renc = codes "renc"
-row_word word_op.Rdec = codes "rdec"
-row_word word_op.Rget = codes "rget"
-row_word word_op.Rput = codes "rput"
-row_word word_op.Rdrop = codes "rdrop"
+abbrev pub word_operator_word : WordOp → List ℕ
+word_operator_word word_op.Wenc = codes "wenc"
+word_operator_word word_op.Wdec = codes "wdec"
+word_operator_word word_op.Wor = codes "wor"
+word_operator_word word_op.Wand = codes "wand"
+word_operator_word word_op.Wnot = codes "wnot"
+word_operator_word word_op.Wcard = codes "wcard"
+word_operator_word word_op.Win = codes "win"
+word_operator_word word_op.Wleast = codes "wleast"
+word_operator_word word_op.Renc = codes "renc"
+word_operator_word word_op.Rdec = codes "rdec"
+word_operator_word word_op.Rget = codes "rget"
+word_operator_word word_op.Rput = codes "rput"
+word_operator_word word_op.Rdrop = codes "rdrop"
 
-abbrev pub word_of : Op → List ℕ
-word_of (Logic o) = logic_word o
-word_of (Number o) = number_word o
-word_of (Pair o) = pair_word o
-word_of (Set o) = set_word o
-word_of (Seq o) = seq_word o
-word_of (Map o) = map_word o
-word_of (Word o) = row_word o
+abbrev pub operator_word : Op → List ℕ
+operator_word (Logic o) = logic_word o
+operator_word (Number o) = number_word o
+operator_word (Pair o) = pair_word o
+operator_word (Set o) = set_word o
+operator_word (Seq o) = seq_word o
+operator_word (Map o) = map_word o
+operator_word (Word o) = word_operator_word o
 
 abbrev pub binder_word : Binder → List ℕ
 binder_word binder.All = codes "all"
@@ -120,7 +120,7 @@ first_with word (x ∷ xs) w = if bytes_eq w (word x) then Some x else first_wit
 
 -- the operator of a word
 unfoldable pub op_of : List ℕ → Option Op
-op_of w = first_with word_of OPERATORS w
+op_of w = first_with operator_word OPERATORS w
 
 -- the binder of a word
 unfoldable pub binder_of : List ℕ → Option Binder

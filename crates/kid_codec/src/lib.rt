@@ -22,10 +22,13 @@ pub use law::{
 };
 pub use name::is_name;
 pub use number::number_of;
-pub use print::{sort_tree, term_tree, value_tree};
+pub use print::{
+    begun, number_tree, sort_tree, term_tree, tree_of_sort, tree_of_term, tree_of_value,
+    value_tree, word_tree,
+};
 pub use sort::{sort_from, spelled_sort};
 pub use tags::{sort_has_tags, term_has_tags};
 pub use term::{spelled_term, term_of};
 pub use tree_name::spelled_name;
 pub use value::value_of;
-pub use word::{binder_of, binder_word, op_of, takes, word_of};
+pub use word::{binder_of, binder_word, op_of, operator_word, takes};

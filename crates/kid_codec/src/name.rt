@@ -1,6 +1,7 @@
 ghost use Rattle.std.specs.Prelude.{◌≡◌, map};
 ghost use Rattle.std.specs.List.{list_all};
-ghost use Rattle.kid_codec.specs.Name.{is_letter, is_name_byte, is_digit, is_among, starts_rule, is_rule_number, is_reserved, starts_with_letter, is_name};
+ghost use Rattle.kid_value.specs.NameSet.{is_among};
+ghost use Rattle.kid_codec.specs.Name.{is_letter, is_name_byte, is_digit, starts_rule, is_rule_number, is_reserved, starts_with_letter, is_name};
 
 /// A name has no more bytes.
 pub const MAX_NAME: usize = 32;
@@ -152,11 +153,11 @@ fn are_name_bytes(bytes: &[u8]) -> bool
     bytes.iter().all(|byte| is_name_byte(*byte))
 }
 
-fn is_among(words: &[&[u8]], word: &[u8]) -> bool
-    ensures { result ≡ is_among (map (λ w. w.now) words.now) word.now }
+fn is_among(word: &[u8], words: &[&[u8]]) -> bool
+    ensures { result ≡ is_among word.now (map (λ w. w.now) words.now) }
 {
     for other in words {
-        if *other == word {
+        if word == *other {
             return true;
         }
     }
@@ -183,7 +184,7 @@ fn is_rule_number(word: &[u8]) -> bool
 fn is_reserved(word: &[u8]) -> bool
     ensures { result ≡ is_reserved word.now }
 {
-    is_among(&RESERVED, word) || is_rule_number(word)
+    is_among(word, &RESERVED) || is_rule_number(word)
 }
 
 fn starts_with_letter(word: &[u8]) -> bool

@@ -13,20 +13,30 @@ ghost use Rattle.kid_codec.specs.SpelledValue.{Spells};
 ghost use Rattle.kid_codec.specs.TermSpelling.{head_spelling, term_spelling, term_spellings, is_spelled_term, term_reading};
 ghost use Rattle.kid_codec.specs.ValueSpelling.{truth_word, value_spelling, value_spellings, entry_spellings, is_spelled_value, spelled_value};
 
-use crate::word::{binder_word, word_of};
+use crate::word::{binder_word, operator_word};
 use itoa::Buffer;
 use kid_sexp::{Forest, Tree};
 use kid_term::{Head, Literal, Term};
 use kid_value::{Memory, Sort, Text, Value};
 use std::alloc::Global;
 
-fn word_tree(alloc: Global, word: &[u8]) -> Result<Tree, Memory>
+/// The tree that is a word.
+///
+/// # Errors
+///
+/// Fails where memory is wanting.
+pub fn word_tree(alloc: Global, word: &[u8]) -> Result<Tree, Memory>
     ensures { IfOk result (λ t. plain_tree t ≡ atom word.now) }
 {
     Ok(Tree::Atom(Text::from_slice(alloc, word)?))
 }
 
-fn number_tree(alloc: Global, n: i64) -> Result<Tree, Memory>
+/// The tree of a number, which is its decimal text. It reads back to the number within plus or minus 4611686018427387904.
+///
+/// # Errors
+///
+/// Fails where memory is wanting.
+pub fn number_tree(alloc: Global, n: i64) -> Result<Tree, Memory>
     ensures { IfOk result (λ t. plain_tree t ≡ number_tree n) }
 {
     let mut buffer = Buffer::new();
@@ -54,8 +64,12 @@ fn tag_tree(alloc: Global, name: &[u8]) -> Result<Tree, Memory>
     Ok(Tree::Atom(word))
 }
 
-/// A list that begins with a word.
-fn begun(alloc: Global, word: &[u8]) -> Result<Forest, Memory>
+/// A list that begins with a word, to which trees are added.
+///
+/// # Errors
+///
+/// Fails where memory is wanting.
+pub fn begun(alloc: Global, word: &[u8]) -> Result<Forest, Memory>
     ensures { IfOk result (λ f. f ≡ one (atom word.now)) }
 {
     let mut trees = Forest::new(alloc);
@@ -83,7 +97,12 @@ fn names_tree(alloc: Global, names: &[Text]) -> Result<Tree, Memory>
     Ok(Tree::List(trees))
 }
 
-fn tree_of_sort(alloc: Global, sort: &Sort) -> Result<Tree, Memory>
+/// The tree of any sort, whether or not it reads back. [`sort_tree`] takes those that do.
+///
+/// # Errors
+///
+/// Fails where memory is wanting.
+pub fn tree_of_sort(alloc: Global, sort: &Sort) -> Result<Tree, Memory>
     ensures { IfOk result (λ t. plain_tree t ≡ sort_spelling (plain_sort sort.now)) }
 {
     match sort {
@@ -131,8 +150,13 @@ pub fn sort_tree(alloc: Global, sort: &Sort) -> Result<Tree, Memory>
     tree_of_sort(alloc, sort)
 }
 
+/// The tree of any value, whether or not it reads back. [`value_tree`] takes those that do.
+///
+/// # Errors
+///
+/// Fails where memory is wanting.
 #[cycle(value_tree)]
-fn tree_of_value(alloc: Global, value: &Value) -> Result<Tree, Memory>
+pub fn tree_of_value(alloc: Global, value: &Value) -> Result<Tree, Memory>
     ensures { IfOk result (λ t. plain_tree t ≡ value_spelling (plain value.now)) }
 {
     match value {
@@ -204,7 +228,7 @@ fn trees_of_head(alloc: Global, head: &Head) -> Result<Forest, Memory>
     ensures { IfOk result (λ f. f ≡ head_spelling (plain_head head.now)) }
 {
     match head {
-        Head::Op(op) => begun(alloc, word_of(*op)),
+        Head::Op(op) => begun(alloc, operator_word(*op)),
         Head::Call(name) => begun(alloc, name.as_slice()),
         Head::Cast(sort) => {
             let mut trees = begun(alloc, b"cast")?;
@@ -214,8 +238,13 @@ fn trees_of_head(alloc: Global, head: &Head) -> Result<Forest, Memory>
     }
 }
 
+/// The tree of any term, whether or not it reads back. [`term_tree`] takes those that do.
+///
+/// # Errors
+///
+/// Fails where memory is wanting.
 #[cycle(term_tree)]
-fn tree_of_term(alloc: Global, term: &Term) -> Result<Tree, Memory>
+pub fn tree_of_term(alloc: Global, term: &Term) -> Result<Tree, Memory>
     ensures { IfOk result (λ t. plain_tree t ≡ term_spelling (plain_term term.now)) }
 {
     match term {

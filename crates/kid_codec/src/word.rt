@@ -1,7 +1,7 @@
 //! The words of the operators and of the binders.
 ghost use Rattle.std.specs.Prelude.{◌≡◌, Some, IfSome};
-ghost use Rattle.kid_codec.specs.Word.{logic_word, number_word, pair_word, set_word, seq_word, map_word, row_word, word_of, binder_word, first_with, op_of, binder_of};
-ghost use Rattle.kid_codec.specs.Takes.{logic_takes, number_takes, pair_takes, set_takes, seq_takes, map_takes, row_takes, takes, row_numbers, numbers_first};
+ghost use Rattle.kid_codec.specs.Word.{logic_word, number_word, pair_word, set_word, seq_word, map_word, word_operator_word, operator_word, binder_word, first_with, op_of, binder_of};
+ghost use Rattle.kid_codec.specs.Takes.{logic_takes, number_takes, pair_takes, set_takes, seq_takes, map_takes, word_operator_takes, takes, word_operator_numbers, numbers_first};
 
 use kid_term::{Binder, LogicOp, MapOp, NumberOp, Op, PairOp, SeqOp, SetOp, WordOp};
 use kid_value::Text;
@@ -172,8 +172,8 @@ fn map_word(op: MapOp) -> &'static [u8]
     }
 }
 
-fn row_word(op: WordOp) -> &'static [u8]
-    ensures { result.now ≡ row_word op }
+fn word_operator_word(op: WordOp) -> &'static [u8]
+    ensures { result.now ≡ word_operator_word op }
 {
     match op {
         WordOp::Wenc => b"wenc",
@@ -193,8 +193,8 @@ fn row_word(op: WordOp) -> &'static [u8]
 }
 
 /// The word of an operator. Reading it gives the operator back.
-pub fn word_of(op: Op) -> &'static [u8]
-    ensures word { result.now ≡ word_of op }
+pub fn operator_word(op: Op) -> &'static [u8]
+    ensures word { result.now ≡ operator_word op }
     ensures back { op_of result.now ≡ Some op }
 {
     match op {
@@ -204,7 +204,7 @@ pub fn word_of(op: Op) -> &'static [u8]
         Op::Set(op) => set_word(op),
         Op::Seq(op) => seq_word(op),
         Op::Map(op) => map_word(op),
-        Op::Word(op) => row_word(op),
+        Op::Word(op) => word_operator_word(op),
     }
 }
 
@@ -229,10 +229,10 @@ pub fn binder_word(binder: Binder) -> &'static [u8]
 }
 
 fn op_among(ops: &[Op], word: &Text) -> Option<Op>
-    ensures { result ≡ first_with word_of ops.now word.now }
+    ensures { result ≡ first_with operator_word ops.now word.now }
 {
     for op in ops {
-        if word.is(word_of(*op)) {
+        if word.is(operator_word(*op)) {
             return Some(*op);
         }
     }
@@ -254,7 +254,7 @@ fn binder_among(binders: &[Binder], word: &Text) -> Option<Binder>
 #[tactic(auto, unfolding(crate::specs::Word::op_of))]
 pub fn op_of(word: &Text) -> Option<Op>
     ensures found { result ≡ op_of word.now }
-    ensures word { IfSome result (λ op. word.now ≡ word_of op) }
+    ensures word { IfSome result (λ op. word.now ≡ operator_word op) }
 {
     op_among(&OPERATORS, word)
 }
@@ -328,8 +328,8 @@ fn map_takes(op: MapOp, count: usize) -> bool
     }
 }
 
-fn row_takes(op: WordOp, count: usize) -> bool
-    ensures { result ≡ row_takes op count }
+fn word_operator_takes(op: WordOp, count: usize) -> bool
+    ensures { result ≡ word_operator_takes op count }
 {
     match op {
         WordOp::Wcard => count == 1,
@@ -350,12 +350,12 @@ pub fn takes(op: Op, count: usize) -> bool
         Op::Set(op) => set_takes(op, count),
         Op::Seq(op) => seq_takes(op, count),
         Op::Map(op) => map_takes(op, count),
-        Op::Word(op) => row_takes(op, count),
+        Op::Word(op) => word_operator_takes(op, count),
     }
 }
 
-fn row_numbers(op: WordOp) -> usize
-    ensures { result ≡ row_numbers op }
+fn word_operator_numbers(op: WordOp) -> usize
+    ensures { result ≡ word_operator_numbers op }
 {
     match op {
         WordOp::Wenc | WordOp::Wdec | WordOp::Renc => 2,
@@ -369,7 +369,7 @@ pub fn numbers_first(op: Op) -> usize
     ensures { result ≡ numbers_first op }
 {
     match op {
-        Op::Word(op) => row_numbers(op),
+        Op::Word(op) => word_operator_numbers(op),
         _ => 0,
     }
 }

@@ -18,7 +18,7 @@ use Rattle.kid_codec.specs.NameSpelling.{name_spellings, tag_word}
 use Rattle.kid_codec.specs.Number.{number_of}
 use Rattle.kid_codec.specs.SortSpelling.{sort_spelling, has_spelled_names, is_spelled_sort}
 use Rattle.kid_codec.specs.TermSpelling.{term_spelling, term_spellings, is_spelled_head, is_spelled_term, are_spelled_terms}
-use Rattle.kid_codec.specs.Word.{word_of, binder_word}
+use Rattle.kid_codec.specs.Word.{operator_word, binder_word}
 use Rattle.kid_codec.proofs.Found.{both_some}
 use Rattle.kid_codec.proofs.SortBack.{sort_back}
 use Rattle.kid_prog.specs.PlainStmt.{PlainStmt, assign, when, each, emit, call as calling, PlainStmts, no_stmt, stmt}
@@ -86,7 +86,7 @@ mutual
   term_printable (tag n) h = tag_is_word n h
   term_printable (app (op o) ts) h =
       let r = and_parts (is_spelled_head (op o) (terms ts)) (are_spelled_terms ts) h in
-      and_both (is_word (word_of o)) (is_printable (term_spellings ts)) (op_word o) (terms_printable ts r.1)
+      and_both (is_word (operator_word o)) (is_printable (term_spellings ts)) (op_word o) (terms_printable ts r.1)
   term_printable (app (call f) ts) h =
       let r = and_parts (is_name f) (are_spelled_terms ts) h in
       and_both (is_word f) (is_printable (term_spellings ts)) (name_word f r.0) (terms_printable ts r.1)

@@ -12,22 +12,15 @@ use Rattle.kid_sexp.specs.Alphabet.{in_word}
 use Rattle.kid_sexp.specs.Printing.{is_word}
 use Rattle.kid_value.specs.SortLimits.{in_limits}
 use Rattle.kid_value.proofs.SortLemmas.{and_parts, and_both, list_all-weaker}
-use Rattle.kid_term.specs.declared.operator.LogicOp.TheVariants as logic
-use Rattle.kid_term.specs.declared.operator.NumberOp.TheVariants as num
-use Rattle.kid_term.specs.declared.operator.PairOp.TheVariants as pair_op
-use Rattle.kid_term.specs.declared.operator.SetOp.TheVariants as set_op
-use Rattle.kid_term.specs.declared.operator.SeqOp.TheVariants as seq_op
-use Rattle.kid_term.specs.declared.operator.MapOp.TheVariants as map_op
-use Rattle.kid_term.specs.declared.operator.WordOp.TheVariants as row_op
 use Rattle.kid_term.specs.declared.operator.Op.{Op}
-use Rattle.kid_term.specs.declared.operator.Op.TheVariants.{Logic, Number, Pair, Set, Seq, Map, Word}
 use Rattle.kid_term.specs.declared.operator.Binder.{Binder}
 use Rattle.kid_term.specs.declared.operator.Binder.TheVariants as binder
 use Rattle.kid_codec.specs.Name.{is_letter, is_digit, is_name_byte, is_reserved, starts_with_letter, is_name}
 use Rattle.kid_codec.specs.Number.{number_of}
-use Rattle.kid_codec.specs.Word.{word_of, binder_word}
+use Rattle.kid_codec.specs.Word.{operator_word, binder_word}
 use Rattle.kid_codec.proofs.Found.{number_from}
 use Rattle.kid_codec.proofs.Numbers.{small_pos, small_negsuc}
+use Rattle.kid_codec.proofs.Words.{of_each}
 
 word_byte : (c : ℕ) → nat_le 33 c ≡ true → nat_le c 126 ≡ true → (c == 40) ≡ false → (c == 41) ≡ false → (c == 59) ≡ false → in_word c ≡ true
 word_byte c a b d e f = rw (a, b, d, e, f) refl
@@ -91,69 +84,8 @@ number_word (negsuc n) h = let k = decimal_is_IsNumeral (suc n) (omega (arith, s
 pub read_number_word : (w : List ℕ) (n : ℤ) → number_of w ≡ Some n → is_word w ≡ true
 read_number_word w n p = let r = number_from w n p in ap is_word r.0 ∙ number_word n r.1
 
-pub op_word : (o : Op) → is_word (word_of o) ≡ true
-op_word (Logic logic.Not) = refl
-op_word (Logic logic.And) = refl
-op_word (Logic logic.Or) = refl
-op_word (Logic logic.Implies) = refl
-op_word (Logic logic.If) = refl
-op_word (Logic logic.Eq) = refl
-op_word (Number num.Le) = refl
-op_word (Number num.Lt) = refl
-op_word (Number num.Add) = refl
-op_word (Number num.Sub) = refl
-op_word (Number num.Neg) = refl
-op_word (Number num.Mul) = refl
-op_word (Number num.Div) = refl
-op_word (Number num.Mod) = refl
-op_word (Number num.Min) = refl
-op_word (Number num.Max) = refl
-op_word (Pair pair_op.Pair) = refl
-op_word (Pair pair_op.Fst) = refl
-op_word (Pair pair_op.Snd) = refl
-op_word (Set set_op.Set) = refl
-op_word (Set set_op.Range) = refl
-op_word (Set set_op.In) = refl
-op_word (Set set_op.Subset) = refl
-op_word (Set set_op.Union) = refl
-op_word (Set set_op.With) = refl
-op_word (Set set_op.Inter) = refl
-op_word (Set set_op.Diff) = refl
-op_word (Set set_op.Without) = refl
-op_word (Set set_op.Card) = refl
-op_word (Set set_op.Sum) = refl
-op_word (Set set_op.Least) = refl
-op_word (Seq seq_op.Seq) = refl
-op_word (Seq seq_op.Len) = refl
-op_word (Seq seq_op.At) = refl
-op_word (Seq seq_op.Snoc) = refl
-op_word (Seq seq_op.Rest) = refl
-op_word (Seq seq_op.Items) = refl
-op_word (Seq seq_op.Total) = refl
-op_word (Seq seq_op.Prefix) = refl
-op_word (Map map_op.Map) = refl
-op_word (Map map_op.Dom) = refl
-op_word (Map map_op.Ran) = refl
-op_word (Map map_op.Get) = refl
-op_word (Map map_op.Put) = refl
-op_word (Map map_op.Drop) = refl
-op_word (Map map_op.Fill) = refl
-op_word (Map map_op.Submap) = refl
-op_word (Map map_op.Fits) = refl
-op_word (Map map_op.Narrow) = refl
-op_word (Word row_op.Wenc) = refl
-op_word (Word row_op.Wdec) = refl
-op_word (Word row_op.Wor) = refl
-op_word (Word row_op.Wand) = refl
-op_word (Word row_op.Wnot) = refl
-op_word (Word row_op.Wcard) = refl
-op_word (Word row_op.Win) = refl
-op_word (Word row_op.Wleast) = refl
-op_word (Word row_op.Renc) = refl
-op_word (Word row_op.Rdec) = refl
-op_word (Word row_op.Rget) = refl
-op_word (Word row_op.Rput) = refl
-op_word (Word row_op.Rdrop) = refl
+pub op_word : (o : Op) → is_word (operator_word o) ≡ true
+op_word o = of_each (λ o. is_word (operator_word o)) refl o
 
 pub binder_is_word : (b : Binder) → is_word (binder_word b) ≡ true
 binder_is_word binder.All = refl

@@ -2,7 +2,7 @@ use Rattle.std.proofs.Common.{sym, ap, ◌∙◌, Some}
 use Rattle.kid_term.specs.declared.operator.Op.TheVariants.{Logic, Number, Pair, Set, Seq, Map, Word}
 use Rattle.kid_codec.specs.Word.{op_of}
 use Rattle.kid_codec.proofs.Words.{op_of-word}
-use Rattle.kid_codec.proofs.word.word_of.Goals as goal
+use Rattle.kid_codec.proofs.word.operator_word.Goals as goal
 
 pub returns-in-Logic-clause-back : goal.returns-in-Logic-clause-back
 returns-in-Logic-clause-back c = ap op_of c.logic_word.ensures ∙ op_of-word (Logic c.in-Logic.op) ∙ ap Some (sym c.in-Logic.is)
@@ -23,4 +23,4 @@ pub returns-in-Map-clause-back : goal.returns-in-Map-clause-back
 returns-in-Map-clause-back c = ap op_of c.map_word.ensures ∙ op_of-word (Map c.in-Map.op) ∙ ap Some (sym c.in-Map.is)
 
 pub returns-in-Word-clause-back : goal.returns-in-Word-clause-back
-returns-in-Word-clause-back c = ap op_of c.row_word.ensures ∙ op_of-word (Word c.in-Word.op) ∙ ap Some (sym c.in-Word.is)
+returns-in-Word-clause-back c = ap op_of c.word_operator_word.ensures ∙ op_of-word (Word c.in-Word.op) ∙ ap Some (sym c.in-Word.is)

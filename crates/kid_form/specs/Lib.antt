@@ -1,0 +1,11 @@
+pub mod Axiom
+pub mod Definition
+pub mod First
+pub mod Form
+pub mod FormData
+pub mod FormExamples
+pub mod FormLaws
+pub mod FormLists
+pub mod FormTrees
+pub mod FormWords
+pub mod Leaves
