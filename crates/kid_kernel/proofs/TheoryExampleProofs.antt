@@ -1,5 +1,5 @@
 -- Each example by computation.
-use Rattle.std.proofs.Common.{◌≡◌, true, pos, [], ◌∷◌, refl}
+use Rattle.std.proofs.Common.{pos, [], ◌∷◌, refl}
 use Rattle.kid_value.specs.PlainValue.{int}
 use Rattle.kid_kernel.specs.TheoryExamples.{x, LawExamples, GoodExamples}
 

@@ -1,6 +1,6 @@
 -- A small theory: which laws may stand in it, and which inputs are good.
 use Rattle.std.specs.Prelude.{◌≡◌, ℕ, Bool, true, false, pos, List, [], ◌∷◌, None, codes}
-use Rattle.kid_value.specs.PlainSort.{PlainSort, bools, ints, sets}
+use Rattle.kid_value.specs.PlainSort.{bools, ints}
 use Rattle.kid_value.specs.PlainValue.{PlainValue, int}
 use Rattle.kid_term.specs.Eval.{Env}
 use Rattle.kid_term.specs.Good.{Good}
