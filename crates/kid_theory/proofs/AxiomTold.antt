@@ -19,8 +19,9 @@ use Rattle.kid_codec.proofs.Found.{same_some, mapped, both_some, bind_some}
 use Rattle.kid_codec.proofs.ShapeTold.{form_told, couple_told, quadruple_told}
 use Rattle.kid_codec.proofs.TermTold.{TermsTold}
 use Rattle.kid_term.specs.PlainLaw.{PlainConclusion, equal, holds, PlainLaw}
-use Rattle.kid_theory.specs.Forms.{is_unbound, is_condition, have_common, is_sorted_conclusion, is_sorted_law, is_named_law, judged_law, axiom_form}
-use Rattle.kid_theory.specs.IsTheory.{is_spelled_conclusion, is_spelled_axiom}
+use Rattle.kid_kernel.specs.SortedLaw.{is_unbound, is_condition, have_common, is_sorted_conclusion, is_sorted_law}
+use Rattle.kid_theory.specs.Formed.{is_spelled_conclusion, is_spelled_axiom}
+use Rattle.kid_theory.specs.Forms.{is_named_law, judged_law, axiom_form}
 use Rattle.kid_theory.specs.Judged.{Judged, tested}
 use Rattle.kid_theory.specs.Shapes.{word_of, theory_term, theory_terms, declared_names, lone_term, given_terms, equal_sides, equal_parts, holds_shape, equal_or, conclusion_shape, with_conclusion, axiom_of, axiom_shape}
 use Rattle.kid_theory.specs.Spelling.{conclusion_spelling, axiom_spelling}

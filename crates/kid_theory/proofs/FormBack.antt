@@ -17,10 +17,11 @@ use Rattle.kid_codec.specs.SortSpelling.{headed}
 use Rattle.kid_codec.specs.TermSpelling.{term_spelling, is_spelled_term}
 use Rattle.kid_codec.proofs.Numbers.{number_of-decimal}
 use Rattle.kid_term.specs.PlainLaw.{PlainLaw}
+use Rattle.kid_kernel.specs.SortedLaw.{is_sorted_law}
+use Rattle.kid_kernel.specs.Wordless.{is_wordless, is_wordless_definition, is_wordless_law}
 use Rattle.kid_theory.specs.Ahead.{calls_ahead}
-use Rattle.kid_theory.specs.Formed.{is_wordless, is_wordless_definition, is_wordless_law, names_of, is_formed_definition}
-use Rattle.kid_theory.specs.Forms.{title_form, judged_definition, definition_form, judged_name, input_form, output_form, condition_form, counted, first_form, is_sorted_law, is_named_law, judged_law, axiom_form}
-use Rattle.kid_theory.specs.IsTheory.{is_spelled_axiom}
+use Rattle.kid_theory.specs.Formed.{names_of, is_formed_definition, is_spelled_axiom}
+use Rattle.kid_theory.specs.Forms.{title_form, judged_definition, definition_form, judged_name, input_form, output_form, condition_form, counted, first_form, is_named_law, judged_law, axiom_form}
 use Rattle.kid_theory.specs.Judged.{◌>>=◌, shaped, tested}
 use Rattle.kid_theory.specs.Shapes.{declared_form}
 use Rattle.kid_theory.specs.Spelling.{axiom_spelling, first_spelling}
@@ -29,8 +30,8 @@ use Rattle.kid_theory.specs.declared.fault.TheoryCode.TheVariants as code
 use Rattle.kid_theory.proofs.Passed.{found}
 use Rattle.kid_theory.proofs.ShapeBack.{lone_term_shaped, declared_shaped, definition_shaped, axiom_shaped}
 
-pub title_passed : (name : List ℕ) → is_name name ≡ true → title_form (headed (codes "theory") (one (atom name))) ≡ Ok tt
-title_passed name named = ap (λ (b : Bool). tested b code.Name (found tt)) named
+pub title_passed : (name : List ℕ) → is_name name ≡ true → title_form (headed (codes "theory") (one (atom name))) ≡ Ok name
+title_passed name named = ap (λ (b : Bool). tested b code.Name (found name)) named
 
 pub condition_passed : (word : List ℕ) (defs : List PlainDef) (names : Names) (c : PlainTerm) → is_spelled_term c ≡ true → is_wordless c ≡ true → is_truth (sort_of defs names c) ≡ true
     → condition_form word defs names (headed word (one (term_spelling c))) ≡ Ok c

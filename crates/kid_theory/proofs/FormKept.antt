@@ -8,9 +8,11 @@ use Rattle.kid_term.specs.PlainTerm.{PlainTerm}
 use Rattle.kid_term.specs.Sorting.{sort_of}
 use Rattle.kid_sorting.specs.Declaring.{is_truth, is_sorted_definition, is_shallow}
 use Rattle.kid_term.specs.PlainLaw.{PlainLaw}
+use Rattle.kid_kernel.specs.SortedLaw.{is_sorted_law}
+use Rattle.kid_kernel.specs.Wordless.{is_wordless, is_wordless_definition, is_wordless_law}
 use Rattle.kid_theory.specs.Ahead.{calls_ahead}
-use Rattle.kid_theory.specs.Formed.{is_wordless, is_wordless_definition, is_wordless_law, names_of, is_formed_definition}
-use Rattle.kid_theory.specs.Forms.{judged_definition, definition_form, condition_form, is_sorted_law, is_named_law, judged_law, axiom_form}
+use Rattle.kid_theory.specs.Formed.{names_of, is_formed_definition}
+use Rattle.kid_theory.specs.Forms.{judged_definition, definition_form, condition_form, is_named_law, judged_law, axiom_form}
 use Rattle.kid_theory.specs.Judged.{Judged, tested}
 use Rattle.kid_theory.specs.Shapes.{lone_term, definition_shape, axiom_shape}
 use Rattle.kid_theory.specs.Taken.{Taken, is_free, are_free}

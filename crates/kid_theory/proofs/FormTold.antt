@@ -26,17 +26,19 @@ use Rattle.kid_theory.specs.declared.fault.TheoryCode.TheVariants as code
 use Rattle.kid_theory.proofs.ShapeTold.{free_name, word_tree, lone_tree, declared_form_told, lone_truth_told, definition_told}
 use Rattle.kid_theory.proofs.Passed.{found, found_same, tested_ok, shaped_ok}
 
-truth_sorted : (r : Sorted) → is_truth r ≡ true → r ≡ Ok bools
+pub truth_sorted : (r : Sorted) → is_truth r ≡ true → r ≡ Ok bools
 truth_sorted (Ok bools) h = refl
 truth_sorted r h = cc
 
-pub title_told : (t : Plain) (u : Unit {0}) → title_form t ≡ Ok u → (name : List ℕ) × (is_name name ≡ true) × (t ≡ headed (codes "theory") (one (atom name)))
-title_told t u p =
-    let s = shaped_ok (lone_word (codes "theory") t) (λ w. tested (is_name w) code.Name (Ok tt)) u p in
+pub title_told : (t : Plain) (name : List ℕ) → title_form t ≡ Ok name → (is_name name ≡ true) × (t ≡ headed (codes "theory") (one (atom name)))
+title_told t name p =
+    let s = shaped_ok (lone_word (codes "theory") t) (λ w. tested (is_name w) code.Name (found w)) name p in
     let w : List ℕ = s.0 in
-    let n = tested_ok (is_name w) code.Name (found tt) u s.2 in
+    let n = tested_ok (is_name w) code.Name (found w) name s.2 in
+    let same = found_same w name n.1 in
     let c = bind_some (lone (codes "theory") t) word_of w s.1 in
-    (w, n.0, lone_tree (codes "theory") t c.0 c.1 ∙ ap (λ (v : Plain). headed (codes "theory") (one v)) (word_tree c.0 w c.2))
+    let tree = lone_tree (codes "theory") t c.0 c.1 ∙ ap (λ (v : Plain). headed (codes "theory") (one v)) (word_tree c.0 w c.2) in
+    (subst (λ (v : List ℕ). is_name v ≡ true) same n.0, tree ∙ ap (λ (v : List ℕ). headed (codes "theory") (one (atom v))) same)
 
 -- a condition is a truth value
 pub condition_told : (word : List ℕ) (defs : List PlainDef) (names : Names) (t : Plain) (c : PlainTerm) → condition_form word defs names t ≡ Ok c

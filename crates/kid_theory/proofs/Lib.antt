@@ -1,9 +1,10 @@
 pub mod AxiomTold
-pub mod CommonSorts
 pub mod DepthLemmas
+pub mod FirstTold
 pub mod FormBack
 pub mod FormKept
 pub mod FormTold
+pub mod FormedTheory
 pub mod Laws
 pub mod NameRows
 pub mod Passed
@@ -12,10 +13,7 @@ pub mod ReadKept
 pub mod ShapeBack
 pub mod ShapeKept
 pub mod ShapeTold
-pub mod SpellingTold
 pub mod StageLemmas
 pub mod Stages
 pub mod TakenLemmas
-pub mod TheoryTold
 pub mod TermRows
-pub mod FirstTold

@@ -1,4 +1,4 @@
--- A file that spells a theory which keeps the rules is read as that theory.
+-- Bytes that spell a theory file which keeps the rules are read as that file.
 use Rattle.std.proofs.Common.{◌≡◌, ℕ, suc, ◌+◌, ◌≤◌, Bool, true, List, [], ◌∷◌, ◌++◌, length, Option, Some, None, Ok, refl, sym, ap, ◌∙◌, subst, arith, append_assoc, append-nil}
 use Rattle.std.specs.Prelude.{◌&&◌, nat_le, nat_lt, if◌then◌else◌, codes}
 use Rattle.std.specs.List.{list_all}
@@ -11,21 +11,23 @@ use Rattle.kid_value.specs.PlainSort.{PlainSort}
 use Rattle.kid_value.specs.SortLimits.{is_allowed}
 use Rattle.kid_value.proofs.SortLemmas.{and_parts}
 use Rattle.kid_term.specs.Names.{Names, PlainDef}
-use Rattle.kid_term.specs.PlainSpec.{is_wanted, relation_scope}
+use Rattle.kid_term.specs.PlainSpec.{is_wanted}
 use Rattle.kid_term.specs.PlainTerm.{PlainTerm}
 use Rattle.kid_sorting.specs.Declaring.{are_allowed}
 use Rattle.kid_codec.specs.DeclaredSpelling.{named_spelling, definition_spelling, definitions_before, inputs_before, is_spelled_name, is_spelled_definition}
 use Rattle.kid_codec.specs.SortSpelling.{headed}
 use Rattle.kid_codec.specs.TermSpelling.{term_spelling, is_spelled_term}
 use Rattle.kid_term.specs.PlainLaw.{PlainLaw}
-use Rattle.kid_term.specs.PlainTheory.{PlainTheory}
-use Rattle.kid_theory.specs.Formed.{is_wordless, is_wordless_definition, is_wordless_law, is_wordless_theory, names_of, is_formed_definition, are_formed_definitions, are_named_before, names_before_axioms, IsFormed, FormedTheoriesAreRead}
-use Rattle.kid_theory.specs.Forms.{title_form, definition_form, input_form, output_form, condition_form, first_form, is_named_law, is_sorted_law, axiom_form}
-use Rattle.kid_theory.specs.IsTheory.{is_spelled_theory, is_spelled_axiom}
+use Rattle.kid_kernel.specs.Differ.{words_of}
+use Rattle.kid_kernel.specs.SortedLaw.{is_sorted_law}
+use Rattle.kid_kernel.specs.Wordless.{is_wordless, is_wordless_definition, is_wordless_law}
+use Rattle.kid_theory.specs.Formed.{names_of, is_formed_definition, are_formed_definitions, are_named_before, names_before_axioms, IsFormed, IsFileOf, is_spelled_axiom}
+use Rattle.kid_theory.specs.Forms.{title_form, definition_form, input_form, output_form, condition_form, first_form, is_named_law, axiom_form}
 use Rattle.kid_theory.specs.Judged.{Judged}
-use Rattle.kid_theory.specs.Reading.{Read, ◌>>=◌, refused, numbered, at, Front, with_axiom, theory_with, at_end, with_first, after_relation, after_output, after_condition, after_inputs, after_definitions, theory_from, from_forest, front_of}
-use Rattle.kid_theory.specs.Spelling.{axiom_spelling, axioms_before, first_spelling, first_before, last_forms, later_forms, theory_spelling}
-use Rattle.kid_theory.specs.Taken.{Taken, is_free, are_free, words_of}
+use Rattle.kid_theory.specs.PlainFile.{PlainFile, output_of, relation_names}
+use Rattle.kid_theory.specs.Reading.{Read, ◌>>=◌, refused, numbered, at, Front, with_axiom, file_with, at_end, with_first, after_relation, after_output, after_condition, after_inputs, after_definitions, file_from, from_forest, front_of, file_reading}
+use Rattle.kid_theory.specs.Spelling.{axiom_spelling, axioms_before, first_spelling, first_before, last_forms, later_forms, from_inputs, file_spelling}
+use Rattle.kid_theory.specs.Taken.{Taken, is_free, are_free}
 use Rattle.kid_theory.specs.declared.fault.TheoryCode.TheVariants as code
 use Rattle.kid_theory.proofs.FirstTold.{wanting}
 use Rattle.kid_theory.proofs.FormBack.{title_passed, condition_passed, first_passed, output_passed, input_passed, definition_passed, axiom_passed}
@@ -43,7 +45,7 @@ passed {A = A} k r f x y few is later =
     ∙ ap (λ (s : Judged A). numbered k s >>= f) is ∙ later
 
 -- a stage reads these forms after so many others that they are not too many
-abbrev Reads : (ℕ → Plains → Read PlainTheory) → Plains → PlainTheory → Type 0
+abbrev Reads : (ℕ → Plains → Read PlainFile) → Plains → PlainFile → Type 0
 Reads stage ts t = (k : ℕ) → k + forest_len ts ≤ 1024 → stage k ts ≡ Ok t
 
 further : (k : ℕ) (u : Plain) (us : Plains) → k + forest_len (more u us) ≤ 1024 → (suc k ≤ 1024) × (suc k + forest_len us ≤ 1024)
@@ -54,10 +56,10 @@ further k u us few = (omega arith, omega arith)
 names_more : (before : List PlainDef) (d : PlainDef) → names_of (before ++ d ∷ []) ≡ names_of before ++ d.name ∷ []
 names_more before d = map-append (λ (e : PlainDef). e.name) before (d ∷ [])
 
-abbrev DefinitionsRead : List PlainDef → Plains → PlainTheory → Type 0
-DefinitionsRead defs ts t = Reads (λ k us. after_definitions k defs (names_of defs) us) ts t
+abbrev DefinitionsRead : List PlainDef → Plains → PlainFile → Type 0
+DefinitionsRead defs ts t = Reads (λ k us. after_definitions k t.title defs (names_of defs) us) ts t
 
-definitions_read : (before rest : List PlainDef) (later : Plains) (t : PlainTheory) → list_all is_spelled_definition rest ≡ true → list_all is_wordless_definition rest ≡ true
+definitions_read : (before rest : List PlainDef) (later : Plains) (t : PlainFile) → list_all is_spelled_definition rest ≡ true → list_all is_wordless_definition rest ≡ true
     → are_formed_definitions before rest later ≡ true → DefinitionsRead (before ++ rest) later t → DefinitionsRead before (definitions_before rest later) t
 definitions_read before [] later t spelled wordless formed reads = subst (λ (ds : List PlainDef). DefinitionsRead ds later t) (append-nil before) reads
 definitions_read before (d ∷ ds) later t spelled wordless formed reads = λ k few.
@@ -68,21 +70,21 @@ definitions_read before (d ∷ ds) later t spelled wordless formed reads = λ k 
     let us : Plains = definitions_before ds later in
     let few_further = further k (definition_spelling d) us few in
     let after = definitions_read (before ++ d ∷ []) ds later t s.1 w.1 f.1 whole (suc k) few_further.1 in
-    passed (suc k) (definition_form before (names_of before) us (definition_spelling d)) (λ e. after_definitions (suc k) (before ++ e ∷ []) (names_of before ++ e.name ∷ []) us) d t
+    passed (suc k) (definition_form before (names_of before) us (definition_spelling d)) (λ e. after_definitions (suc k) t.title (before ++ e ∷ []) (names_of before ++ e.name ∷ []) us) d t
     few_further.0 (definition_passed before us d s.0 w.0 f.0)
-    (ap (λ (taken : Taken). after_definitions (suc k) (before ++ d ∷ []) taken us) (sym (names_more before d)) ∙ after)
+    (ap (λ (taken : Taken). after_definitions (suc k) t.title (before ++ d ∷ []) taken us) (sym (names_more before d)) ∙ after)
 
 -- ---- inputs
 
-abbrev InputsRead : List PlainDef → Names → Taken → Plains → PlainTheory → Type 0
-InputsRead defs inputs taken ts t = Reads (λ k us. after_inputs k defs inputs taken us) ts t
+abbrev InputsRead : List PlainDef → Names → Taken → Plains → PlainFile → Type 0
+InputsRead defs inputs taken ts t = Reads (λ k us. after_inputs k t.title defs inputs taken us) ts t
 
 room_further : (inputs : Names) (n : List ℕ × PlainSort) (ns : Names) → length inputs + length (n ∷ ns) ≤ 16 → (length inputs + 1 ≤ 16) × (length (inputs ++ n ∷ []) + length ns ≤ 16)
 room_further inputs n ns room =
     let l = length-append inputs (n ∷ []) in
     (omega arith, omega (arith, l))
 
-inputs_read : (defs : List PlainDef) (inputs : Names) (taken : Taken) (rest : Names) (later : Plains) (t : PlainTheory) → list_all is_spelled_name rest ≡ true
+inputs_read : (defs : List PlainDef) (inputs : Names) (taken : Taken) (rest : Names) (later : Plains) (t : PlainFile) → list_all is_spelled_name rest ≡ true
     → length inputs + length rest ≤ 16 → are_free taken rest ≡ true → are_allowed rest ≡ true
     → InputsRead defs (inputs ++ rest) (taken ++ words_of rest) later t → InputsRead defs inputs taken (inputs_before rest later) t
 inputs_read defs inputs taken [] later t spelled room free allowed reads =
@@ -98,153 +100,109 @@ inputs_read defs inputs taken (n ∷ ns) later t spelled room free allowed reads
     let places = room_further inputs n ns room in
     let us : Plains = inputs_before ns later in
     let few_further = further k (headed (codes "input") (named_spelling n)) us few in
-    passed (suc k) (input_form inputs taken (headed (codes "input") (named_spelling n))) (λ m. after_inputs (suc k) defs (inputs ++ m ∷ []) (taken ++ m.0 ∷ []) us) n t
+    passed (suc k) (input_form inputs taken (headed (codes "input") (named_spelling n))) (λ m. after_inputs (suc k) t.title defs (inputs ++ m ∷ []) (taken ++ m.0 ∷ []) us) n t
     few_further.0 (input_passed inputs taken n (is_below (length inputs) 16 places.0) s.0 f.0 a.0)
     (inputs_read defs (inputs ++ n ∷ []) (taken ++ n.0 ∷ []) ns later t s.1 places.1 f.1 a.1 whole (suc k) few_further.1)
 
 -- ---- the forms after the inputs
 
--- the forms of the theory up to some axioms
-abbrev front : PlainTheory → List PlainLaw → Taken → Taken → Front
+-- the forms of the file up to some axioms
+abbrev front : PlainFile → List PlainLaw → Taken → Taken → Front
 front t axioms taken variables = record {
-  definitions = t.signature.definitions;
-  inputs = t.spec.inputs;
+  title = t.title;
+  definitions = t.definitions;
+  inputs = t.inputs;
   taken = taken;
-  condition = t.spec.condition;
+  condition = t.condition;
   axioms = axioms;
   variables = variables;
 }
 
-abbrev output_of : PlainTheory → List ℕ × PlainSort
-output_of t = (t.spec.output, t.spec.sort)
+-- what a file's parts give is the file
+whole_file : (t : PlainFile) (axioms : List PlainLaw) (taken variables : Taken) → axioms ≡ t.laws → wanting (file_with (front t axioms taken variables) (output_of t) t.relation) t.first ≡ t
+whole_file t axioms taken variables is = ap (λ (laws : List PlainLaw). record t { laws = laws }) is
 
--- what a theory's parts give is the theory
-whole_theory : (t : PlainTheory) (axioms : List PlainLaw) (taken variables : Taken) → axioms ≡ t.axioms → t.laws ≡ [] → t.signature.inputs ≡ t.spec.inputs
-    → wanting (theory_with (front t axioms taken variables) (output_of t) t.spec.relation) t.spec.first ≡ t
-whole_theory t axioms taken variables is no_laws same =
-    let empty = sym no_laws in
-    let inputs = sym same in
-    λ i. record { signature = record { definitions = t.signature.definitions; inputs = inputs i }; laws = empty i; axioms = is i; spec = t.spec }
-
-abbrev read : PlainTheory → Read PlainTheory
+abbrev read : PlainFile → Read PlainFile
 read t = Ok t
 
--- its parts have spellings, and hold no operator on words or rows
-record Parts (t : PlainTheory) : Type 0 where
-  definitions : list_all is_spelled_definition t.signature.definitions ≡ true
-  inputs : list_all is_spelled_name t.spec.inputs ≡ true
-  condition : is_spelled_term t.spec.condition ≡ true
-  output : is_spelled_name (output_of t) ≡ true
-  relation : is_spelled_term t.spec.relation ≡ true
-  definitions_wordless : list_all is_wordless_definition t.signature.definitions ≡ true
-  condition_wordless : is_wordless t.spec.condition ≡ true
-  axioms_wordless : list_all is_wordless_law t.axioms ≡ true
-  relation_wordless : is_wordless t.spec.relation ≡ true
-
-parts_of : (t : PlainTheory) → is_spelled_theory t ≡ true → is_wordless_theory t ≡ true → Parts t
-parts_of t spelled wordless =
-    let ds : Bool = list_all is_spelled_definition t.signature.definitions in
-    let ns : Bool = list_all is_spelled_name t.spec.inputs in
-    let c : Bool = is_spelled_term t.spec.condition in
-    let four = and_parts (ds && ns && c && is_spelled_name (output_of t)) (is_spelled_term t.spec.relation) spelled in
-    let three = and_parts (ds && ns && c) (is_spelled_name (output_of t)) four.0 in
-    let two = and_parts (ds && ns) c three.0 in
-    let names = and_parts ds ns two.0 in
-    let es : Bool = list_all is_wordless_definition t.signature.definitions in
-    let whole = and_parts (es && is_wordless t.spec.condition && list_all is_wordless_law t.axioms) (is_wordless t.spec.relation) wordless in
-    let most = and_parts (es && is_wordless t.spec.condition) (list_all is_wordless_law t.axioms) whole.0 in
-    let begin = and_parts es (is_wordless t.spec.condition) most.0 in
-    record {
-      definitions = names.0;
-      inputs = names.1;
-      condition = two.1;
-      output = three.1;
-      relation = four.1;
-      definitions_wordless = begin.0;
-      condition_wordless = begin.1;
-      axioms_wordless = most.1;
-      relation_wordless = whole.1;
-    }
-
-abbrev ConditionRead : PlainTheory → List PlainLaw → Taken → Taken → Plains → Type 0
+abbrev ConditionRead : PlainFile → List PlainLaw → Taken → Taken → Plains → Type 0
 ConditionRead t axioms taken variables ts = Reads (λ k us. after_condition k (front t axioms taken variables) us) ts t
 
 -- how many answers are wanted
-first_read : (f : Front) (output : List ℕ × PlainSort) (relation : PlainTerm) (first : Option ℕ) (t : PlainTheory) → is_wanted first ≡ true
-    → wanting (theory_with f output relation) first ≡ t → Reads (λ k us. after_relation k (theory_with f output relation) us) (first_before first none) t
+first_read : (f : Front) (output : List ℕ × PlainSort) (relation : PlainTerm) (first : Option ℕ) (t : PlainFile) → is_wanted first ≡ true
+    → wanting (file_with f output relation) first ≡ t → Reads (λ k us. after_relation k (file_with f output relation) us) (first_before first none) t
 first_read f output relation None t h is = λ k few. ap read is
 first_read f output relation (Some n) t h is = λ k few.
     let few_further = further k (first_spelling n) none few in
-    passed (suc k) (first_form (first_spelling n)) (λ m. at_end (suc k) (with_first (theory_with f output relation) m) none) n t few_further.0 (first_passed n h) (ap read is)
+    passed (suc k) (first_form (first_spelling n)) (λ m. at_end (suc k) (with_first (file_with f output relation) m) none) n t few_further.0 (first_passed n h) (ap read is)
 
-relation_read : (name : List ℕ) (t : PlainTheory) (axioms : List PlainLaw) (taken variables : Taken) → IsFormed name t → Parts t → axioms ≡ t.axioms
-    → Reads (λ k us. after_output k (front t axioms taken variables) (output_of t) us) (more (headed (codes "ensure") (one (term_spelling t.spec.relation))) (first_before t.spec.first none)) t
-relation_read name t axioms taken variables formed parts is = λ k few.
-    let us : Plains = first_before t.spec.first none in
-    let few_further = further k (headed (codes "ensure") (one (term_spelling t.spec.relation))) us few in
-    passed (suc k) (condition_form (codes "ensure") t.signature.definitions (relation_scope t.spec) (headed (codes "ensure") (one (term_spelling t.spec.relation))))
-    (λ relation. after_relation (suc k) (theory_with (front t axioms taken variables) (output_of t) relation) us) t.spec.relation t
-    few_further.0 (condition_passed (codes "ensure") t.signature.definitions (relation_scope t.spec) t.spec.relation parts.relation parts.relation_wordless formed.relation)
-    (first_read (front t axioms taken variables) (output_of t) t.spec.relation t.spec.first t formed.wanted
-    (whole_theory t axioms taken variables is formed.no_laws formed.same_inputs) (suc k) few_further.1)
+relation_read : (t : PlainFile) (axioms : List PlainLaw) (taken variables : Taken) → IsFormed t → axioms ≡ t.laws
+    → Reads (λ k us. after_output k (front t axioms taken variables) (output_of t) us) (more (headed (codes "ensure") (one (term_spelling t.relation))) (first_before t.first none)) t
+relation_read t axioms taken variables formed is = λ k few.
+    let us : Plains = first_before t.first none in
+    let few_further = further k (headed (codes "ensure") (one (term_spelling t.relation))) us few in
+    passed (suc k) (condition_form (codes "ensure") t.definitions (relation_names t) (headed (codes "ensure") (one (term_spelling t.relation))))
+    (λ relation. after_relation (suc k) (file_with (front t axioms taken variables) (output_of t) relation) us) t.relation t
+    few_further.0 (condition_passed (codes "ensure") t.definitions (relation_names t) t.relation formed.relation_spelled formed.relation_wordless formed.relation_sorted)
+    (first_read (front t axioms taken variables) (output_of t) t.relation t.first t formed.wanted
+    (whole_file t axioms taken variables is) (suc k) few_further.1)
 
-output_read : (name : List ℕ) (t : PlainTheory) (axioms : List PlainLaw) (taken variables : Taken) → IsFormed name t → Parts t → axioms ≡ t.axioms
-    → is_free (taken ++ variables) t.spec.output ≡ true → ConditionRead t axioms taken variables (last_forms t)
-output_read name t axioms taken variables formed parts is free = λ k few.
-    let us : Plains = more (headed (codes "ensure") (one (term_spelling t.spec.relation))) (first_before t.spec.first none) in
+output_read : (t : PlainFile) (axioms : List PlainLaw) (taken variables : Taken) → IsFormed t → axioms ≡ t.laws
+    → is_free (taken ++ variables) t.output ≡ true → ConditionRead t axioms taken variables (last_forms t)
+output_read t axioms taken variables formed is free = λ k few.
+    let us : Plains = more (headed (codes "ensure") (one (term_spelling t.relation))) (first_before t.first none) in
     let few_further = further k (headed (codes "output") (named_spelling (output_of t))) us few in
     passed (suc k) (output_form (taken ++ variables) (headed (codes "output") (named_spelling (output_of t))))
     (λ output. after_output (suc k) (front t axioms taken variables) output us) (output_of t) t
-    few_further.0 (output_passed (taken ++ variables) (output_of t) parts.output free formed.sort_allowed)
-    (relation_read name t axioms taken variables formed parts is (suc k) few_further.1)
+    few_further.0 (output_passed (taken ++ variables) (output_of t) formed.output_spelled free formed.sort_allowed)
+    (relation_read t axioms taken variables formed is (suc k) few_further.1)
 
-axioms_read : (name : List ℕ) (t : PlainTheory) (axioms rest : List PlainLaw) (taken variables : Taken) → IsFormed name t → Parts t → axioms ++ rest ≡ t.axioms
-    → list_all is_spelled_axiom rest ≡ true → list_all is_wordless_law rest ≡ true → list_all (is_sorted_law t.signature.definitions t.spec.inputs) rest ≡ true
-    → are_named_before taken variables rest t.spec.output ≡ true → ConditionRead t axioms taken variables (axioms_before rest (last_forms t))
-axioms_read name t axioms [] taken variables formed parts is spelled wordless sorted named = output_read name t axioms taken variables formed parts (sym (append-nil axioms) ∙ is) named
-axioms_read name t axioms (a ∷ others) taken variables formed parts is spelled wordless sorted named = λ k few.
+axioms_read : (t : PlainFile) (axioms rest : List PlainLaw) (taken variables : Taken) → IsFormed t → axioms ++ rest ≡ t.laws
+    → list_all is_spelled_axiom rest ≡ true → list_all is_wordless_law rest ≡ true → list_all (is_sorted_law t.definitions t.inputs) rest ≡ true
+    → are_named_before taken variables rest t.output ≡ true → ConditionRead t axioms taken variables (axioms_before rest (last_forms t))
+axioms_read t axioms [] taken variables formed is spelled wordless sorted named = output_read t axioms taken variables formed (sym (append-nil axioms) ∙ is) named
+axioms_read t axioms (a ∷ others) taken variables formed is spelled wordless sorted named = λ k few.
     let s = and_parts (is_spelled_axiom a) (list_all is_spelled_axiom others) spelled in
     let w = and_parts (is_wordless_law a) (list_all is_wordless_law others) wordless in
-    let o = and_parts (is_sorted_law t.signature.definitions t.spec.inputs a) (list_all (is_sorted_law t.signature.definitions t.spec.inputs) others) sorted in
-    let later : Bool = are_named_before (taken ++ a.name ∷ []) (variables ++ words_of a.variables) others t.spec.output in
+    let o = and_parts (is_sorted_law t.definitions t.inputs a) (list_all (is_sorted_law t.definitions t.inputs) others) sorted in
+    let later : Bool = are_named_before (taken ++ a.name ∷ []) (variables ++ words_of a.variables) others t.output in
     let n = and_parts (is_named_law taken variables a) later named in
     let us : Plains = axioms_before others (last_forms t) in
     let few_further = further k (axiom_spelling a) us few in
-    passed (suc k) (axiom_form t.signature.definitions t.spec.inputs taken variables (axiom_spelling a)) (λ b. after_condition (suc k) (with_axiom (front t axioms taken variables) b) us) a t
-    few_further.0 (axiom_passed t.signature.definitions t.spec.inputs taken variables a s.0 w.0 n.0 o.0)
-    (axioms_read name t (axioms ++ a ∷ []) others (taken ++ a.name ∷ []) (variables ++ words_of a.variables) formed parts (append_assoc axioms (a ∷ []) others ∙ is) s.1 w.1 o.1 n.1 (suc k) few_further.1)
+    passed (suc k) (axiom_form t.definitions t.inputs taken variables (axiom_spelling a)) (λ b. after_condition (suc k) (with_axiom (front t axioms taken variables) b) us) a t
+    few_further.0 (axiom_passed t.definitions t.inputs taken variables a s.0 w.0 n.0 o.0)
+    (axioms_read t (axioms ++ a ∷ []) others (taken ++ a.name ∷ []) (variables ++ words_of a.variables) formed (append_assoc axioms (a ∷ []) others ∙ is) s.1 w.1 o.1 n.1 (suc k) few_further.1)
 
-condition_read : (name : List ℕ) (t : PlainTheory) → IsFormed name t → Parts t → InputsRead t.signature.definitions t.spec.inputs (names_before_axioms t) (later_forms t) t
-condition_read name t formed parts = λ k few.
-    let us : Plains = axioms_before t.axioms (last_forms t) in
-    let few_further = further k (headed (codes "require") (one (term_spelling t.spec.condition))) us few in
-    passed (suc k) (condition_form (codes "require") t.signature.definitions t.spec.inputs (headed (codes "require") (one (term_spelling t.spec.condition))))
-    (λ condition. after_condition (suc k) (front_of t.signature.definitions t.spec.inputs (names_before_axioms t) condition) us) t.spec.condition t
-    few_further.0 (condition_passed (codes "require") t.signature.definitions t.spec.inputs t.spec.condition parts.condition parts.condition_wordless formed.condition)
-    (axioms_read name t [] t.axioms (names_before_axioms t) [] formed parts refl formed.axioms_spelled parts.axioms_wordless formed.axioms_sorted formed.axioms_named (suc k) few_further.1)
+condition_read : (t : PlainFile) → IsFormed t → InputsRead t.definitions t.inputs (names_before_axioms t) (later_forms t) t
+condition_read t formed = λ k few.
+    let us : Plains = axioms_before t.laws (last_forms t) in
+    let few_further = further k (headed (codes "require") (one (term_spelling t.condition))) us few in
+    passed (suc k) (condition_form (codes "require") t.definitions t.inputs (headed (codes "require") (one (term_spelling t.condition))))
+    (λ condition. after_condition (suc k) (front_of t.title t.definitions t.inputs (names_before_axioms t) condition) us) t.condition t
+    few_further.0 (condition_passed (codes "require") t.definitions t.inputs t.condition formed.condition_spelled formed.condition_wordless formed.condition_sorted)
+    (axioms_read t [] t.laws (names_before_axioms t) [] formed refl formed.laws_spelled formed.laws_wordless formed.laws_sorted formed.laws_named (suc k) few_further.1)
 
 -- ---- the whole
 
 -- no definition comes after them
-definitions_end : (k : ℕ) (defs : List PlainDef) (taken : Taken) (ns : Names) (t : PlainTheory)
-    → after_definitions k defs taken (inputs_before ns (later_forms t)) ≡ after_inputs k defs [] taken (inputs_before ns (later_forms t))
+definitions_end : (k : ℕ) (defs : List PlainDef) (taken : Taken) (ns : Names) (t : PlainFile)
+    → after_definitions k t.title defs taken (inputs_before ns (later_forms t)) ≡ after_inputs k t.title defs [] taken (inputs_before ns (later_forms t))
 definitions_end k defs taken [] t = refl
 definitions_end k defs taken (n ∷ ns) t = refl
 
-forms_read : (name : List ℕ) (t : PlainTheory) → IsFormed name t → theory_from (theory_spelling name t) ≡ Ok t
-forms_read name t formed =
-    let parts = parts_of t formed.spelled formed.wordless in
-    let defs : List PlainDef = t.signature.definitions in
-    let ns : Names = t.spec.inputs in
-    let later : Plains = inputs_before ns (later_forms t) in
+forms_read : (t : PlainFile) → IsFormed t → file_from (file_spelling t) ≡ Ok t
+forms_read t formed =
+    let defs : List PlainDef = t.definitions in
+    let ns : Names = t.inputs in
+    let later : Plains = from_inputs t in
     let few = formed.few_inputs in
-    let inputs = inputs_read defs [] (names_of defs) ns (later_forms t) t parts.inputs (omega (arith, few)) formed.inputs_free formed.inputs_allowed (condition_read name t formed parts) in
-    let definitions = definitions_read [] defs later t parts.definitions parts.definitions_wordless formed.definitions_formed
+    let inputs = inputs_read defs [] (names_of defs) ns (later_forms t) t formed.inputs_spelled (omega (arith, few)) formed.inputs_free formed.inputs_allowed (condition_read t formed) in
+    let definitions = definitions_read [] defs later t formed.definitions_spelled formed.definitions_wordless formed.definitions_formed
     (λ k few. definitions_end k defs (names_of defs) ns t ∙ inputs k few) in
-    passed 1 (title_form (headed (codes "theory") (one (atom name)))) (λ _. after_definitions 1 [] [] (definitions_before defs later)) tt t
-    (omega arith) (title_passed name formed.named) (definitions 1 formed.few_forms)
+    passed 1 (title_form (headed (codes "theory") (one (atom t.title)))) (λ title. after_definitions 1 title [] [] (definitions_before defs later)) t.title t
+    (omega arith) (title_passed t.title formed.named) (definitions 1 formed.few_forms)
 
-pub formed_read : FormedTheoriesAreRead
-formed_read bytes name t formed few spells =
-    ap (λ (b : Bool). if b then from_forest (reading bytes) else refused 0 code.Large) (is_at_most (length bytes) 4194304 few)
-    ∙ ap from_forest (spelled-reading bytes (theory_spelling name t) spells) ∙ forms_read name t formed
+pub kept_read : (bytes : List ℕ) (t : PlainFile) → IsFileOf bytes t → file_reading bytes ≡ Ok t
+kept_read bytes t is =
+    ap (λ (b : Bool). if b then from_forest (reading bytes) else refused 0 code.Large) (is_at_most (length bytes) 4194304 is.few)
+    ∙ ap from_forest (spelled-reading bytes (file_spelling t) is.spells) ∙ forms_read t is.formed

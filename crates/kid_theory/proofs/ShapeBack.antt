@@ -19,8 +19,8 @@ use Rattle.kid_codec.proofs.Numbers.{bytes_eq-itself}
 use Rattle.kid_codec.proofs.SortBack.{spelled_parts}
 use Rattle.kid_codec.proofs.TermBack.{term_back}
 use Rattle.kid_term.specs.PlainLaw.{PlainConclusion, equal, holds, PlainLaw}
-use Rattle.kid_theory.specs.Formed.{is_wordless, is_wordless_definition, is_wordless_conclusion, is_wordless_law}
-use Rattle.kid_theory.specs.IsTheory.{is_spelled_conclusion, is_spelled_axiom}
+use Rattle.kid_kernel.specs.Wordless.{is_wordless, is_wordless_definition, is_wordless_conclusion, is_wordless_law}
+use Rattle.kid_theory.specs.Formed.{is_spelled_conclusion, is_spelled_axiom}
 use Rattle.kid_theory.specs.Shapes.{if_theory_term, theory_term, theory_terms, declared_pair, declared_each, lone, lone_term, declared_form, with_body, definition_shape, conclusion_shape, with_conclusion, axiom_shape}
 use Rattle.kid_theory.specs.Spelling.{conclusion_spelling, axiom_spelling}
 

@@ -14,7 +14,7 @@ use Rattle.kid_codec.specs.SortSpelling.{spelled_sort}
 use Rattle.kid_codec.specs.TermSpelling.{spelled_term}
 use Rattle.kid_codec.proofs.Found.{same_some, mapped, both_some, bind_some}
 use Rattle.kid_term.specs.PlainLaw.{PlainConclusion, equal, holds, PlainLaw}
-use Rattle.kid_theory.specs.Formed.{is_wordless, is_wordless_definition, is_wordless_conclusion, is_wordless_law}
+use Rattle.kid_kernel.specs.Wordless.{is_wordless, is_wordless_definition, is_wordless_conclusion, is_wordless_law}
 use Rattle.kid_theory.specs.Shapes.{word_of, if_theory_term, theory_term, theory_terms, declared_names, lone, lone_term, with_body, definition_of, definition_shape, given_terms, equal_sides, equal_parts, holds_shape, equal_or, conclusion_shape, with_conclusion, axiom_of, axiom_shape}
 
 wordless_by : (m u : PlainTerm) (b : Bool) → holds_word_operator m ≡ b → (if b then None else Some m) ≡ Some u → is_wordless u ≡ true

@@ -22,12 +22,13 @@ use Rattle.kid_codec.proofs.ShapeTold.{form_told, single_told, couple_told, quad
 use Rattle.kid_codec.proofs.SortedCasts.{sorted_casts}
 use Rattle.kid_codec.proofs.SortTold.{sort_whole}
 use Rattle.kid_codec.proofs.TermTold.{TermTold, term_told}
+use Rattle.kid_value.specs.NameSet.{is_among}
 use Rattle.kid_theory.specs.Shapes.{theory_term, word_of, declared, declared_pair, declared_list, declared_each, declared_names, lone, lone_term, declared_form, with_body, definition_of, definition_shape}
 use Rattle.kid_theory.proofs.TermRows.{theory_term-spelled}
-use Rattle.kid_theory.specs.Taken.{Taken, is_taken, is_free, are_free}
+use Rattle.kid_theory.specs.Taken.{Taken, is_free, are_free}
 
 pub free_name : (taken : Taken) (x : List ℕ) → is_free taken x ≡ true → is_name x ≡ true
-free_name taken x p = (and_parts (is_name x) (not (is_taken x taken)) p).0
+free_name taken x p = (and_parts (is_name x) (not (is_among x taken)) p).0
 
 pub word_tree : (t : Plain) (w : List ℕ) → word_of t ≡ Some w → t ≡ atom w
 word_tree (atom v) w e = ap atom (same_some v w e)

@@ -13,18 +13,18 @@ use Rattle.kid_term.specs.TermView.{plain_term}
 use Rattle.kid_term.specs.declared.Term.{Term}
 use Rattle.kid_term.specs.declared.definition.Def.{Def}
 use Rattle.kid_kernel.specs.LawView.{plain_axiom}
-use Rattle.kid_term.specs.PlainTheory.{PlainTheory}
-use Rattle.kid_kernel.specs.TheoryView.{plain_theory}
 use Rattle.kid_kernel.specs.declared.law.Axiom.{Axiom}
-use Rattle.kid_kernel.specs.declared.theory.Theory.{Theory}
 use Rattle.kid_theory.specs.Judged.{Judged}
 use Rattle.kid_theory.specs.Answers.{CodeFails, Judges, Fails, Reads, fault_at, placed, located}
+use Rattle.kid_theory.specs.FileView.{plain_file}
 use Rattle.kid_theory.specs.Forms.{begins, definition_form, input_form, output_form, condition_form, first_form, axiom_form}
-use Rattle.kid_theory.specs.Reading.{Read, ◌>>=◌, refused, numbered, at, Front, with_axiom, theory_with, front_of, at_end, with_first, after_relation, after_output, after_condition, after_inputs, after_definitions}
+use Rattle.kid_theory.specs.PlainFile.{PlainFile}
+use Rattle.kid_theory.specs.Reading.{Read, ◌>>=◌, refused, numbered, at, Front, with_axiom, file_with, front_of, at_end, with_first, after_relation, after_output, after_condition, after_inputs, after_definitions}
 use Rattle.kid_theory.specs.Taken.{Taken}
 use Rattle.kid_theory.specs.declared.fault.TheoryCode.{TheoryCode}
 use Rattle.kid_theory.specs.declared.fault.TheoryCode.TheVariants as code
 use Rattle.kid_theory.specs.declared.fault.TheoryFault.{TheoryFault}
+use Rattle.kid_theory.specs.declared.file.TheoryFile.{TheoryFile}
 
 abbrev placed_if : {A : Type 0} → Bool → ℕ → Result A TheoryCode → Result A TheoryFault
 placed_if b k r = if b then placed k r else Err (fault_at k code.Limit)
@@ -76,12 +76,12 @@ failed view r there k fault f o staged judged found =
 
 output-stage : (k m : ℕ) (f : Front) (output : List ℕ × PlainSort) (trees rest : List Tree) (tree : Tree) → suc k ≡ m → trees ≡ tree ∷ rest
     → after_output k f output (plains trees)
-    ≡ (at m (condition_form (codes "ensure") f.definitions (f.inputs ++ output ∷ []) (plain tree)) >>= λ relation. after_relation m (theory_with f output relation) (plains rest))
+    ≡ (at m (condition_form (codes "ensure") f.definitions (f.inputs ++ output ∷ []) (plain tree)) >>= λ relation. after_relation m (file_with f output relation) (plains rest))
 output-stage k m f output trees rest tree e are =
     ap (λ (ts : List Tree). after_output k f output (plains ts)) are
-    ∙ ap (λ j. at j (condition_form (codes "ensure") f.definitions (f.inputs ++ output ∷ []) (plain tree)) >>= λ relation. after_relation j (theory_with f output relation) (plains rest)) e
+    ∙ ap (λ j. at j (condition_form (codes "ensure") f.definitions (f.inputs ++ output ∷ []) (plain tree)) >>= λ relation. after_relation j (file_with f output relation) (plains rest)) e
 
-abbrev condition_if : ℕ → Front → Tree → List Tree → Bool → Read PlainTheory
+abbrev condition_if : ℕ → Front → Tree → List Tree → Bool → Read PlainFile
 condition_if k f tree rest b =
     if b
     then (at k (axiom_form f.definitions f.inputs f.taken f.variables (plain tree)) >>= λ a. after_condition k (with_axiom f a) (plains rest))
@@ -104,53 +104,53 @@ named-stage : (k m : ℕ) (f : Front) (trees rest : List Tree) (tree : Tree) →
     ≡ (at m (output_form (f.taken ++ f.variables) (plain tree)) >>= λ output. after_output m f output (plains rest))
 named-stage k m f trees rest tree e are is = condition_stage k m f trees rest tree false e are is
 
-abbrev inputs_if : ℕ → List PlainDef → Names → Taken → Tree → List Tree → Bool → Read PlainTheory
-inputs_if k defs inputs taken tree rest b =
+abbrev inputs_if : ℕ → List ℕ → List PlainDef → Names → Taken → Tree → List Tree → Bool → Read PlainFile
+inputs_if k title defs inputs taken tree rest b =
     if b
-    then (at k (input_form inputs taken (plain tree)) >>= λ n. after_inputs k defs (inputs ++ n ∷ []) (taken ++ n.0 ∷ []) (plains rest))
-    else (at k (condition_form (codes "require") defs inputs (plain tree)) >>= λ condition. after_condition k (front_of defs inputs taken condition) (plains rest))
+    then (at k (input_form inputs taken (plain tree)) >>= λ n. after_inputs k title defs (inputs ++ n ∷ []) (taken ++ n.0 ∷ []) (plains rest))
+    else (at k (condition_form (codes "require") defs inputs (plain tree)) >>= λ condition. after_condition k (front_of title defs inputs taken condition) (plains rest))
 
-inputs_stage : (k m : ℕ) (defs : List PlainDef) (inputs : Names) (taken : Taken) (trees rest : List Tree) (tree : Tree) (b : Bool) → suc k ≡ m → trees ≡ tree ∷ rest
+inputs_stage : (k m : ℕ) (title : List ℕ) (defs : List PlainDef) (inputs : Names) (taken : Taken) (trees rest : List Tree) (tree : Tree) (b : Bool) → suc k ≡ m → trees ≡ tree ∷ rest
     → begins (codes "input") (plain tree) ≡ b
-    → after_inputs k defs inputs taken (plains trees) ≡ inputs_if m defs inputs taken tree rest b
-inputs_stage k m defs inputs taken trees rest tree b e are is =
-    ap (λ (ts : List Tree). after_inputs k defs inputs taken (plains ts)) are
-    ∙ ap (λ j. inputs_if j defs inputs taken tree rest (begins (codes "input") (plain tree))) e
-    ∙ ap (λ c. inputs_if m defs inputs taken tree rest c) is
+    → after_inputs k title defs inputs taken (plains trees) ≡ inputs_if m title defs inputs taken tree rest b
+inputs_stage k m title defs inputs taken trees rest tree b e are is =
+    ap (λ (ts : List Tree). after_inputs k title defs inputs taken (plains ts)) are
+    ∙ ap (λ j. inputs_if j title defs inputs taken tree rest (begins (codes "input") (plain tree))) e
+    ∙ ap (λ c. inputs_if m title defs inputs taken tree rest c) is
 
-input-stage : (k m : ℕ) (defs : List PlainDef) (inputs : Names) (taken : Taken) (trees rest : List Tree) (tree : Tree) → suc k ≡ m → trees ≡ tree ∷ rest
+input-stage : (k m : ℕ) (title : List ℕ) (defs : List PlainDef) (inputs : Names) (taken : Taken) (trees rest : List Tree) (tree : Tree) → suc k ≡ m → trees ≡ tree ∷ rest
     → begins (codes "input") (plain tree) ≡ true
-    → after_inputs k defs inputs taken (plains trees)
-    ≡ (at m (input_form inputs taken (plain tree)) >>= λ n. after_inputs m defs (inputs ++ n ∷ []) (taken ++ n.0 ∷ []) (plains rest))
-input-stage k m defs inputs taken trees rest tree e are is = inputs_stage k m defs inputs taken trees rest tree true e are is
+    → after_inputs k title defs inputs taken (plains trees)
+    ≡ (at m (input_form inputs taken (plain tree)) >>= λ n. after_inputs m title defs (inputs ++ n ∷ []) (taken ++ n.0 ∷ []) (plains rest))
+input-stage k m title defs inputs taken trees rest tree e are is = inputs_stage k m title defs inputs taken trees rest tree true e are is
 
-require-stage : (k m : ℕ) (defs : List PlainDef) (inputs : Names) (taken : Taken) (trees rest : List Tree) (tree : Tree) → suc k ≡ m → trees ≡ tree ∷ rest
+require-stage : (k m : ℕ) (title : List ℕ) (defs : List PlainDef) (inputs : Names) (taken : Taken) (trees rest : List Tree) (tree : Tree) → suc k ≡ m → trees ≡ tree ∷ rest
     → begins (codes "input") (plain tree) ≡ false
-    → after_inputs k defs inputs taken (plains trees)
-    ≡ (at m (condition_form (codes "require") defs inputs (plain tree)) >>= λ condition. after_condition m (front_of defs inputs taken condition) (plains rest))
-require-stage k m defs inputs taken trees rest tree e are is = inputs_stage k m defs inputs taken trees rest tree false e are is
+    → after_inputs k title defs inputs taken (plains trees)
+    ≡ (at m (condition_form (codes "require") defs inputs (plain tree)) >>= λ condition. after_condition m (front_of title defs inputs taken condition) (plains rest))
+require-stage k m title defs inputs taken trees rest tree e are is = inputs_stage k m title defs inputs taken trees rest tree false e are is
 
-abbrev definitions_if : ℕ → ℕ → List PlainDef → Taken → Tree → List Tree → Bool → Read PlainTheory
-definitions_if k m defs taken tree rest b =
+abbrev definitions_if : ℕ → ℕ → List ℕ → List PlainDef → Taken → Tree → List Tree → Bool → Read PlainFile
+definitions_if k m title defs taken tree rest b =
     if b
-    then (at m (definition_form defs taken (plains rest) (plain tree)) >>= λ d. after_definitions m (defs ++ d ∷ []) (taken ++ d.name ∷ []) (plains rest))
-    else after_inputs k defs [] taken (plains (tree ∷ rest))
+    then (at m (definition_form defs taken (plains rest) (plain tree)) >>= λ d. after_definitions m title (defs ++ d ∷ []) (taken ++ d.name ∷ []) (plains rest))
+    else after_inputs k title defs [] taken (plains (tree ∷ rest))
 
-definitions_stage : (k m : ℕ) (defs : List PlainDef) (taken : Taken) (trees rest : List Tree) (tree : Tree) (b : Bool) → suc k ≡ m → trees ≡ tree ∷ rest
+definitions_stage : (k m : ℕ) (title : List ℕ) (defs : List PlainDef) (taken : Taken) (trees rest : List Tree) (tree : Tree) (b : Bool) → suc k ≡ m → trees ≡ tree ∷ rest
     → begins (codes "def") (plain tree) ≡ b
-    → after_definitions k defs taken (plains trees) ≡ definitions_if k m defs taken tree rest b
-definitions_stage k m defs taken trees rest tree b e are is =
-    ap (λ (ts : List Tree). after_definitions k defs taken (plains ts)) are
-    ∙ ap (λ j. definitions_if k j defs taken tree rest (begins (codes "def") (plain tree))) e
-    ∙ ap (λ c. definitions_if k m defs taken tree rest c) is
+    → after_definitions k title defs taken (plains trees) ≡ definitions_if k m title defs taken tree rest b
+definitions_stage k m title defs taken trees rest tree b e are is =
+    ap (λ (ts : List Tree). after_definitions k title defs taken (plains ts)) are
+    ∙ ap (λ j. definitions_if k j title defs taken tree rest (begins (codes "def") (plain tree))) e
+    ∙ ap (λ c. definitions_if k m title defs taken tree rest c) is
 
-definition-stage : (k m : ℕ) (defs : List PlainDef) (taken : Taken) (trees rest : List Tree) (tree : Tree) → suc k ≡ m → trees ≡ tree ∷ rest
+definition-stage : (k m : ℕ) (title : List ℕ) (defs : List PlainDef) (taken : Taken) (trees rest : List Tree) (tree : Tree) → suc k ≡ m → trees ≡ tree ∷ rest
     → begins (codes "def") (plain tree) ≡ true
-    → after_definitions k defs taken (plains trees)
-    ≡ (at m (definition_form defs taken (plains rest) (plain tree)) >>= λ d. after_definitions m (defs ++ d ∷ []) (taken ++ d.name ∷ []) (plains rest))
-definition-stage k m defs taken trees rest tree e are is = definitions_stage k m defs taken trees rest tree true e are is
+    → after_definitions k title defs taken (plains trees)
+    ≡ (at m (definition_form defs taken (plains rest) (plain tree)) >>= λ d. after_definitions m title (defs ++ d ∷ []) (taken ++ d.name ∷ []) (plains rest))
+definition-stage k m title defs taken trees rest tree e are is = definitions_stage k m title defs taken trees rest tree true e are is
 
-relation_stage : (k m : ℕ) (t : PlainTheory) (trees rest : List Tree) (tree : Tree) → suc k ≡ m → trees ≡ tree ∷ rest
+relation_stage : (k m : ℕ) (t : PlainFile) (trees rest : List Tree) (tree : Tree) → suc k ≡ m → trees ≡ tree ∷ rest
     → after_relation k t (plains trees) ≡ (at m (first_form (plain tree)) >>= λ n. at_end m (with_first t n) (plains rest))
 relation_stage k m t trees rest tree e are =
     ap (λ (ts : List Tree). after_relation k t (plains ts)) are
@@ -158,7 +158,7 @@ relation_stage k m t trees rest tree e are =
 
 -- ---- what comes after a form that was not refused
 
-pub first-next : (k m : ℕ) (t u : PlainTheory) (trees rest : List Tree) (tree : Tree) (r : Result ℕ TheoryCode) (n : ℕ)
+pub first-next : (k m : ℕ) (t u : PlainFile) (trees rest : List Tree) (tree : Tree) (r : Result ℕ TheoryCode) (n : ℕ)
     → suc k ≡ m → trees ≡ tree ∷ rest → Judges (λ c. c) r (first_form (plain tree)) → located m r ≡ Ok n → u ≡ with_first t n
     → after_relation k t (plains trees) ≡ at_end m u (plains rest)
 first-next k m t u trees rest tree r n e are judged found is =
@@ -166,12 +166,12 @@ first-next k m t u trees rest tree r n e are judged found is =
     (after_relation k t (plains trees)) (relation_stage k m t trees rest tree e are) judged found
     ∙ ap (λ v. at_end m v (plains rest)) (sym is)
 
-pub relation-next : (k m : ℕ) (f : Front) (output : List ℕ × PlainSort) (trees rest : List Tree) (tree : Tree) (r : Result Term TheoryCode) (x : Term) (t : PlainTheory)
+pub relation-next : (k m : ℕ) (f : Front) (output : List ℕ × PlainSort) (trees rest : List Tree) (tree : Tree) (r : Result Term TheoryCode) (x : Term) (t : PlainFile)
     → suc k ≡ m → trees ≡ tree ∷ rest → Judges plain_term r (condition_form (codes "ensure") f.definitions (f.inputs ++ output ∷ []) (plain tree)) → located m r ≡ Ok x
-    → t ≡ theory_with f output (plain_term x)
+    → t ≡ file_with f output (plain_term x)
     → after_output k f output (plains trees) ≡ after_relation m t (plains rest)
 relation-next k m f output trees rest tree r x t e are judged found is =
-    held plain_term r (condition_form (codes "ensure") f.definitions (f.inputs ++ output ∷ []) (plain tree)) m x (λ relation. after_relation m (theory_with f output relation) (plains rest))
+    held plain_term r (condition_form (codes "ensure") f.definitions (f.inputs ++ output ∷ []) (plain tree)) m x (λ relation. after_relation m (file_with f output relation) (plains rest))
     (after_output k f output (plains trees)) (output-stage k m f output trees rest tree e are) judged found
     ∙ ap (λ u. after_relation m u (plains rest)) (sym is)
 
@@ -192,32 +192,32 @@ output-next k m f trees rest tree r x e are begun judged found =
     held plain_name r (output_form (f.taken ++ f.variables) (plain tree)) m x (λ output. after_output m f output (plains rest))
     (after_condition k f (plains trees)) (named-stage k m f trees rest tree e are begun) judged found
 
-pub input-next : (k m : ℕ) (defs : List PlainDef) (inputs more : Names) (taken now : Taken) (trees rest : List Tree) (tree : Tree) (r : Result (List ℕ × Sort) TheoryCode) (x : List ℕ × Sort)
+pub input-next : (k m : ℕ) (title : List ℕ) (defs : List PlainDef) (inputs more : Names) (taken now : Taken) (trees rest : List Tree) (tree : Tree) (r : Result (List ℕ × Sort) TheoryCode) (x : List ℕ × Sort)
     → suc k ≡ m → trees ≡ tree ∷ rest → begins (codes "input") (plain tree) ≡ true → Judges plain_name r (input_form inputs taken (plain tree)) → located m r ≡ Ok x
     → more ≡ inputs ++ plain_name x ∷ [] → now ≡ taken ++ x.0 ∷ []
-    → after_inputs k defs inputs taken (plains trees) ≡ after_inputs m defs more now (plains rest)
-input-next k m defs inputs more taken now trees rest tree r x e are begun judged found grown named =
-    held plain_name r (input_form inputs taken (plain tree)) m x (λ n. after_inputs m defs (inputs ++ n ∷ []) (taken ++ n.0 ∷ []) (plains rest))
-    (after_inputs k defs inputs taken (plains trees)) (input-stage k m defs inputs taken trees rest tree e are begun) judged found
-    ∙ ap (λ ns. after_inputs m defs ns (taken ++ x.0 ∷ []) (plains rest)) (sym grown) ∙ ap (λ ns. after_inputs m defs more ns (plains rest)) (sym named)
+    → after_inputs k title defs inputs taken (plains trees) ≡ after_inputs m title defs more now (plains rest)
+input-next k m title defs inputs more taken now trees rest tree r x e are begun judged found grown named =
+    held plain_name r (input_form inputs taken (plain tree)) m x (λ n. after_inputs m title defs (inputs ++ n ∷ []) (taken ++ n.0 ∷ []) (plains rest))
+    (after_inputs k title defs inputs taken (plains trees)) (input-stage k m title defs inputs taken trees rest tree e are begun) judged found
+    ∙ ap (λ ns. after_inputs m title defs ns (taken ++ x.0 ∷ []) (plains rest)) (sym grown) ∙ ap (λ ns. after_inputs m title defs more ns (plains rest)) (sym named)
 
-pub require-next : (k m : ℕ) (defs : List PlainDef) (inputs : Names) (taken : Taken) (f : Front) (trees rest : List Tree) (tree : Tree) (r : Result Term TheoryCode) (x : Term)
+pub require-next : (k m : ℕ) (title : List ℕ) (defs : List PlainDef) (inputs : Names) (taken : Taken) (f : Front) (trees rest : List Tree) (tree : Tree) (r : Result Term TheoryCode) (x : Term)
     → suc k ≡ m → trees ≡ tree ∷ rest → begins (codes "input") (plain tree) ≡ false → Judges plain_term r (condition_form (codes "require") defs inputs (plain tree))
-    → located m r ≡ Ok x → f ≡ front_of defs inputs taken (plain_term x)
-    → after_inputs k defs inputs taken (plains trees) ≡ after_condition m f (plains rest)
-require-next k m defs inputs taken f trees rest tree r x e are begun judged found is =
-    held plain_term r (condition_form (codes "require") defs inputs (plain tree)) m x (λ condition. after_condition m (front_of defs inputs taken condition) (plains rest))
-    (after_inputs k defs inputs taken (plains trees)) (require-stage k m defs inputs taken trees rest tree e are begun) judged found
+    → located m r ≡ Ok x → f ≡ front_of title defs inputs taken (plain_term x)
+    → after_inputs k title defs inputs taken (plains trees) ≡ after_condition m f (plains rest)
+require-next k m title defs inputs taken f trees rest tree r x e are begun judged found is =
+    held plain_term r (condition_form (codes "require") defs inputs (plain tree)) m x (λ condition. after_condition m (front_of title defs inputs taken condition) (plains rest))
+    (after_inputs k title defs inputs taken (plains trees)) (require-stage k m title defs inputs taken trees rest tree e are begun) judged found
     ∙ ap (λ g. after_condition m g (plains rest)) (sym is)
 
-pub definition-next : (k m : ℕ) (defs more : List PlainDef) (taken now : Taken) (trees rest : List Tree) (tree : Tree) (r : Result Def TheoryCode) (x : Def)
+pub definition-next : (k m : ℕ) (title same : List ℕ) (defs more : List PlainDef) (taken now : Taken) (trees rest : List Tree) (tree : Tree) (r : Result Def TheoryCode) (x : Def)
     → suc k ≡ m → trees ≡ tree ∷ rest → begins (codes "def") (plain tree) ≡ true → Judges plain_def r (definition_form defs taken (plains rest) (plain tree)) → located m r ≡ Ok x
-    → more ≡ defs ++ plain_def x ∷ [] → now ≡ taken ++ x.name ∷ []
-    → after_definitions k defs taken (plains trees) ≡ after_definitions m more now (plains rest)
-definition-next k m defs more taken now trees rest tree r x e are begun judged found grown named =
-    held plain_def r (definition_form defs taken (plains rest) (plain tree)) m x (λ d. after_definitions m (defs ++ d ∷ []) (taken ++ d.name ∷ []) (plains rest))
-    (after_definitions k defs taken (plains trees)) (definition-stage k m defs taken trees rest tree e are begun) judged found
-    ∙ ap (λ ds. after_definitions m ds (taken ++ x.name ∷ []) (plains rest)) (sym grown) ∙ ap (λ ns. after_definitions m more ns (plains rest)) (sym named)
+    → same ≡ title → more ≡ defs ++ plain_def x ∷ [] → now ≡ taken ++ x.name ∷ []
+    → after_definitions k title defs taken (plains trees) ≡ after_definitions m same more now (plains rest)
+definition-next k m title same defs more taken now trees rest tree r x e are begun judged found titled grown named =
+    held plain_def r (definition_form defs taken (plains rest) (plain tree)) m x (λ d. after_definitions m title (defs ++ d ∷ []) (taken ++ d.name ∷ []) (plains rest))
+    (after_definitions k title defs taken (plains trees)) (definition-stage k m title defs taken trees rest tree e are begun) judged found
+    ∙ sym (λ i. after_definitions m (titled i) (grown i) (named i) (plains rest))
 
 -- ---- refusals
 
@@ -234,16 +234,16 @@ handed view (Ok x) fault there is fails = absurd is
 handed view (Err e) fault there is fails = subst (λ (g : TheoryFault). Fails g g.code there) (sym is) fails
 
 -- no form stands after the last
-abbrev no_theory : Result Theory TheoryCode
-no_theory = Err code.Form
+abbrev no_file : Result TheoryFile TheoryCode
+no_file = Err code.Form
 
-abbrev none_there : Judged PlainTheory
+abbrev none_there : Judged PlainFile
 none_there = Err code.Form
 
-ended_if : (b : Bool) (k : ℕ) → Reads plain_theory (placed_if b k no_theory) (numbered_if b k none_there)
+ended_if : (b : Bool) (k : ℕ) → Reads plain_file (placed_if b k no_file) (numbered_if b k none_there)
 ended_if true k = refl
 ended_if false k = refl
 
-pub ended_not : (k m : ℕ) (t : PlainTheory) (trees : List Tree) → false ≡ (length trees == 0) → suc k ≡ m → Reads plain_theory (located m no_theory) (at_end k t (plains trees))
+pub ended_not : (k m : ℕ) (t : PlainFile) (trees : List Tree) → false ≡ (length trees == 0) → suc k ≡ m → Reads plain_file (located m no_file) (at_end k t (plains trees))
 ended_not k m t [] h e = cc
-ended_not k m t (u ∷ us) h e = subst (λ (j : ℕ). Reads plain_theory (located m no_theory) (at j none_there)) (sym e) (ended_if (nat_le m 1024) m)
+ended_not k m t (u ∷ us) h e = subst (λ (j : ℕ). Reads plain_file (located m no_file) (at j none_there)) (sym e) (ended_if (nat_le m 1024) m)

@@ -5,9 +5,9 @@ use Rattle.std.proofs.lemmas.Bool.Decides.{nat_tests}
 use Rattle.kid_sexp.specs.Brackets.{Fault}
 use Rattle.kid_sexp.specs.Plain.{Plains, none, more}
 use Rattle.kid_sexp.specs.Reading.{reading}
-use Rattle.kid_term.specs.PlainTheory.{PlainTheory}
 use Rattle.kid_theory.specs.Judged.{Judged}
-use Rattle.kid_theory.specs.Reading.{Read, ◌>>=◌, refused, numbered, at, at_end, theory_from, from_forest, theory_reading}
+use Rattle.kid_theory.specs.PlainFile.{PlainFile}
+use Rattle.kid_theory.specs.Reading.{Read, ◌>>=◌, refused, numbered, at, at_end, file_from, from_forest, file_reading}
 use Rattle.kid_theory.specs.declared.fault.TheoryCode.{TheoryCode}
 use Rattle.kid_theory.specs.declared.fault.TheoryCode.TheVariants as code
 
@@ -33,26 +33,26 @@ at_most n limit e = grind (arith, nat_tests)
 pub within : {A B : Type 0} (k : ℕ) (r : Judged A) (f : A → Read B) (y : B) → (at k r >>= f) ≡ Ok y → k ≤ 1024
 within k r f y e = at_most k 1024 (within_by (nat_le k 1024) k r f y e)
 
-abbrev refused_if : Bool → ℕ → Read PlainTheory
+abbrev refused_if : Bool → ℕ → Read PlainFile
 refused_if b k = if b then refused k code.Form else refused k code.Limit
 
-none_further : (b : Bool) (k : ℕ) (t : PlainTheory) → refused_if b k ≡ Ok t → ⊥
+none_further : (b : Bool) (k : ℕ) (t : PlainFile) → refused_if b k ≡ Ok t → ⊥
 none_further true k t p = cc
 none_further false k t p = cc
 
-pub ended : (k : ℕ) (p q : PlainTheory) (ts : Plains) → at_end k p ts ≡ Ok q → p ≡ q
+pub ended : (k : ℕ) (p q : PlainFile) (ts : Plains) → at_end k p ts ≡ Ok q → p ≡ q
 ended k p q none e = cc
 ended k p q (more t ts) e = absurd (none_further (nat_le (suc k) 1024) (suc k) q e)
 
-pub ended_none : (k : ℕ) (p q : PlainTheory) (ts : Plains) → at_end k p ts ≡ Ok q → ts ≡ none
+pub ended_none : (k : ℕ) (p q : PlainFile) (ts : Plains) → at_end k p ts ≡ Ok q → ts ≡ none
 ended_none k p q none e = refl
 ended_none k p q (more t ts) e = absurd (none_further (nat_le (suc k) 1024) (suc k) q e)
 
-forest_of : (b : Bool) (r : Result Plains Fault) (t : PlainTheory) → (if b then from_forest r else refused 0 code.Large) ≡ Ok t → (ts : Plains) × (r ≡ Ok ts) × (theory_from ts ≡ Ok t)
+forest_of : (b : Bool) (r : Result Plains Fault) (t : PlainFile) → (if b then from_forest r else refused 0 code.Large) ≡ Ok t → (ts : Plains) × (r ≡ Ok ts) × (file_from ts ≡ Ok t)
 forest_of true (Ok ts) t e = (ts, refl, e)
 forest_of true (Err fault) t e = cc
 forest_of false r t e = cc
 
 -- the forest of a file that is read
-pub read_forest : (bytes : List ℕ) (t : PlainTheory) → theory_reading bytes ≡ Ok t → (ts : Plains) × (reading bytes ≡ Ok ts) × (theory_from ts ≡ Ok t)
+pub read_forest : (bytes : List ℕ) (t : PlainFile) → file_reading bytes ≡ Ok t → (ts : Plains) × (reading bytes ≡ Ok ts) × (file_from ts ≡ Ok t)
 read_forest bytes t e = forest_of (nat_le (length bytes) 4194304) (reading bytes) t e

@@ -1,8 +1,5 @@
 -- What a function of the reader answered, against what there is.
-use Rattle.std.specs.Prelude.{◌≡◌, ℕ, nat_le, Option, Some, None, Result, Ok, Err, ⊤, if◌then◌else◌}
-use Rattle.kid_value.specs.SortView.{plain_sort}
-use Rattle.kid_value.specs.declared.sort.Sort.{Sort}
-use Rattle.kid_term.specs.Sorted.{Sorted}
+use Rattle.std.specs.Prelude.{◌≡◌, ℕ, nat_le, Result, Ok, Err, ⊤, if◌then◌else◌}
 use Rattle.kid_codec.specs.declared.fault.CodecFault.{CodecFault}
 use Rattle.kid_codec.specs.declared.fault.CodecFault.TheVariants as codec
 use Rattle.kid_theory.specs.Judged.{Judged}
@@ -41,12 +38,6 @@ Reads view (Err fault) there = Fails fault fault.code there
 abbrev pub fault_at : ℕ → TheoryCode → TheoryFault
 fault_at k code.Memory = record { form = 0; code = code.Memory }
 fault_at k c = record { form = k; code = c }
-
--- the sort that there is, if there is one
-abbrev pub Sorts : Option Sort → Sorted → Type 0
-Sorts (Some s) there = there ≡ Ok (plain_sort s)
-Sorts None (Ok s) = ⊥
-Sorts None (Err fault) = Unit {0}
 
 abbrev pub placed : {A : Type 0} → ℕ → Result A TheoryCode → Result A TheoryFault
 placed k (Ok x) = Ok x

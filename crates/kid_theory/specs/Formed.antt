@@ -1,44 +1,38 @@
--- The rules that a theory file keeps.
-use Rattle.std.specs.Prelude.{◌≡◌, ◌≤◌, ℕ, Bool, true, not, ◌&&◌, List, [], ◌∷◌, ◌++◌, length, map, Ok}
+-- The rules that a theory file keeps, and which files are read.
+use Rattle.std.specs.Prelude.{◌≡◌, ◌≤◌, ◌↔◌, ℕ, Bool, true, not, ◌&&◌, List, [], ◌∷◌, ◌++◌, length, map, Ok}
 use Rattle.std.specs.List.{list_all}
 use Rattle.kid_sexp.specs.Plain.{Plains, forest_len}
 use Rattle.kid_sexp.specs.Spells.{Spells}
 use Rattle.kid_value.specs.SortLimits.{is_allowed}
 use Rattle.kid_term.specs.Names.{PlainDef}
-use Rattle.kid_term.specs.PlainSpec.{is_wanted, relation_scope}
-use Rattle.kid_term.specs.PlainTerm.{PlainTerm}
+use Rattle.kid_term.specs.PlainSpec.{is_wanted}
+use Rattle.kid_term.specs.PlainTerm.{term_row}
 use Rattle.kid_term.specs.Sorting.{sort_of}
-use Rattle.kid_term.specs.WordTerms.{holds_word_operator}
 use Rattle.kid_sorting.specs.Declaring.{are_allowed, is_truth, is_sorted_definition, is_shallow}
-use Rattle.kid_codec.specs.DeclaredSpelling.{definitions_before, inputs_before}
+use Rattle.kid_codec.specs.DeclaredSpelling.{definitions_before, is_spelled_name, is_spelled_definition}
 use Rattle.kid_codec.specs.Name.{is_name}
+use Rattle.kid_codec.specs.TermSpelling.{is_spelled_term, are_spelled_terms}
+use Rattle.kid_kernel.specs.Differ.{words_of}
 use Rattle.kid_term.specs.PlainLaw.{PlainConclusion, equal, holds, PlainLaw}
 use Rattle.kid_term.specs.PlainTheory.{PlainTheory}
+use Rattle.kid_kernel.specs.SortedLaw.{is_sorted_law}
+use Rattle.kid_kernel.specs.Wordless.{is_wordless, is_wordless_definition, is_wordless_law}
 use Rattle.kid_theory.specs.Ahead.{calls_ahead}
-use Rattle.kid_theory.specs.Forms.{is_sorted_law, is_named_law}
-use Rattle.kid_theory.specs.IsTheory.{is_spelled_theory, is_spelled_axiom}
-use Rattle.kid_theory.specs.Reading.{theory_reading}
-use Rattle.kid_theory.specs.Spelling.{later_forms, theory_spelling}
-use Rattle.kid_theory.specs.Taken.{Taken, is_free, are_free, words_of}
+use Rattle.kid_theory.specs.Forms.{is_named_law}
+use Rattle.kid_theory.specs.PlainFile.{PlainFile, output_of, relation_names, theory_of}
+use Rattle.kid_theory.specs.Reading.{file_reading}
+use Rattle.kid_theory.specs.Spelling.{from_inputs, file_spelling}
+use Rattle.kid_theory.specs.Taken.{Taken, is_free, are_free}
 
--- ---- no operator on words or rows
+-- ---- what has a spelling
 
-abbrev pub is_wordless : PlainTerm → Bool
-is_wordless t = not (holds_word_operator t)
+abbrev pub is_spelled_conclusion : PlainConclusion → Bool
+is_spelled_conclusion (equal l r) = is_spelled_term l && is_spelled_term r
+is_spelled_conclusion (holds c) = is_spelled_term c
 
-abbrev pub is_wordless_definition : PlainDef → Bool
-is_wordless_definition d = is_wordless d.body
-
-abbrev pub is_wordless_conclusion : PlainConclusion → Bool
-is_wordless_conclusion (equal l r) = is_wordless l && is_wordless r
-is_wordless_conclusion (holds c) = is_wordless c
-
-abbrev pub is_wordless_law : PlainLaw → Bool
-is_wordless_law a = list_all is_wordless a.conditions && is_wordless_conclusion a.conclusion
-
-abbrev pub is_wordless_theory : PlainTheory → Bool
-is_wordless_theory t =
-    list_all is_wordless_definition t.signature.definitions && is_wordless t.spec.condition && list_all is_wordless_law t.axioms && is_wordless t.spec.relation
+-- an axiom's names, sorts and terms have spellings
+abbrev pub is_spelled_axiom : PlainLaw → Bool
+is_spelled_axiom a = is_name a.name && list_all is_spelled_name a.variables && are_spelled_terms (term_row a.conditions) && is_spelled_conclusion a.conclusion
 
 -- ---- definitions
 
@@ -64,42 +58,48 @@ are_named_before taken variables (a ∷ others) output =
     is_named_law taken variables a && are_named_before (taken ++ a.name ∷ []) (variables ++ words_of a.variables) others output
 
 -- the names of the definitions and the inputs
-abbrev pub names_before_axioms : PlainTheory → Taken
-names_before_axioms t = names_of t.signature.definitions ++ words_of t.spec.inputs
+abbrev pub names_before_axioms : PlainFile → Taken
+names_before_axioms f = names_of f.definitions ++ words_of f.inputs
 
--- ---- the theory under a name
+-- ---- the file
 
--- A theory whose file has this title keeps the rules: at most 1024 forms, and for each part what its form asks of it.
-pub record IsFormed (name : List ℕ) (t : PlainTheory) : Type 0 where
-  pub named : is_name name ≡ true
-  pub few_forms : forest_len (theory_spelling name t) ≤ 1024
-  pub spelled : is_spelled_theory t ≡ true
-  pub axioms_spelled : list_all is_spelled_axiom t.axioms ≡ true
-  pub wordless : is_wordless_theory t ≡ true
-  pub definitions_formed : are_formed_definitions [] t.signature.definitions (inputs_before t.spec.inputs (later_forms t)) ≡ true
-  pub few_inputs : length t.spec.inputs ≤ 16
-  pub inputs_free : are_free (names_of t.signature.definitions) t.spec.inputs ≡ true
-  pub inputs_allowed : are_allowed t.spec.inputs ≡ true
-  pub same_inputs : t.signature.inputs ≡ t.spec.inputs
-  pub condition : is_truth (sort_of t.signature.definitions t.spec.inputs t.spec.condition) ≡ true
-  pub no_laws : t.laws ≡ []
-  pub axioms_sorted : list_all (is_sorted_law t.signature.definitions t.spec.inputs) t.axioms ≡ true
-  pub axioms_named : are_named_before (names_before_axioms t) [] t.axioms t.spec.output ≡ true
-  pub sort_allowed : is_allowed t.spec.sort ≡ true
-  pub relation : is_truth (sort_of t.signature.definitions (relation_scope t.spec) t.spec.relation) ≡ true
-  pub wanted : is_wanted t.spec.first ≡ true
+-- A theory file keeps the rules: at most 1024 forms, and for each part a spelling, no operator on words or rows, and what its form asks of it.
+pub record IsFormed (f : PlainFile) : Type 0 where
+  pub named : is_name f.title ≡ true
+  pub few_forms : forest_len (file_spelling f) ≤ 1024
+  pub definitions_spelled : list_all is_spelled_definition f.definitions ≡ true
+  pub definitions_wordless : list_all is_wordless_definition f.definitions ≡ true
+  pub definitions_formed : are_formed_definitions [] f.definitions (from_inputs f) ≡ true
+  pub few_inputs : length f.inputs ≤ 16
+  pub inputs_spelled : list_all is_spelled_name f.inputs ≡ true
+  pub inputs_free : are_free (names_of f.definitions) f.inputs ≡ true
+  pub inputs_allowed : are_allowed f.inputs ≡ true
+  pub condition_spelled : is_spelled_term f.condition ≡ true
+  pub condition_wordless : is_wordless f.condition ≡ true
+  pub condition_sorted : is_truth (sort_of f.definitions f.inputs f.condition) ≡ true
+  pub laws_spelled : list_all is_spelled_axiom f.laws ≡ true
+  pub laws_wordless : list_all is_wordless_law f.laws ≡ true
+  pub laws_sorted : list_all (is_sorted_law f.definitions f.inputs) f.laws ≡ true
+  pub laws_named : are_named_before (names_before_axioms f) [] f.laws f.output ≡ true
+  pub output_spelled : is_spelled_name (output_of f) ≡ true
+  pub sort_allowed : is_allowed f.sort ≡ true
+  pub relation_spelled : is_spelled_term f.relation ≡ true
+  pub relation_wordless : is_wordless f.relation ≡ true
+  pub relation_sorted : is_truth (sort_of f.definitions (relation_names f) f.relation) ≡ true
+  pub wanted : is_wanted f.first ≡ true
 
--- a file that spells a theory which keeps the rules is read as that theory
-abbrev pub FormedTheoriesAreRead : Type 0
-FormedTheoriesAreRead = (bytes : List ℕ) (name : List ℕ) (t : PlainTheory) → IsFormed name t → length bytes ≤ 4194304 → Spells bytes (theory_spelling name t) → theory_reading bytes ≡ Ok t
-
--- The file has at most so many bytes, and they spell the theory under a name, where it keeps the rules.
-pub record IsFormedFile (bytes : List ℕ) (t : PlainTheory) : Type 0 where
+-- The bytes are at most so many, and they spell the file, which keeps the rules.
+pub record IsFileOf (bytes : List ℕ) (f : PlainFile) : Type 0 where
   pub few : length bytes ≤ 4194304
-  pub name : List ℕ
-  pub formed : IsFormed name t
-  pub spells : Spells bytes (theory_spelling name t)
+  pub formed : IsFormed f
+  pub spells : Spells bytes (file_spelling f)
 
--- a theory that is read keeps the rules, and the file spells it
-abbrev pub ReadTheoriesAreFormed : Type 0
-ReadTheoriesAreFormed = (bytes : List ℕ) (t : PlainTheory) → theory_reading bytes ≡ Ok t → IsFormedFile bytes t
+-- bytes are read as a theory file exactly where they spell it and it keeps the rules
+abbrev pub FilesAreRead : Type 0
+FilesAreRead = (bytes : List ℕ) (f : PlainFile) → (file_reading bytes ≡ Ok f) ↔ IsFileOf bytes f
+
+-- the theory is that of a file that the bytes spell, which keeps the rules
+pub record IsSpelledBy (bytes : List ℕ) (t : PlainTheory) : Type 0 where
+  pub file : PlainFile
+  pub gives : theory_of file ≡ t
+  pub is_file : IsFileOf bytes file

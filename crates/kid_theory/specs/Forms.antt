@@ -1,19 +1,17 @@
 -- The forms of a theory: what each holds by its shape, and the rules that it meets, in the order in which they are tested.
-use Rattle.std.specs.Prelude.{ℕ, nat_lt, ℤ, pos, int_le, Bool, true, false, not, ◌&&◌, List, [], ◌∷◌, ◌++◌, length, is_some, Ok, codes}
-use Rattle.std.specs.List.{list_all}
+use Rattle.std.specs.Prelude.{ℕ, nat_lt, ℤ, pos, int_le, Bool, not, ◌&&◌, List, [], ◌∷◌, ◌++◌, length, Ok, codes}
 use Rattle.kid_sexp.specs.Plain.{Plain, Plains}
 use Rattle.kid_value.specs.PlainSort.{PlainSort}
 use Rattle.kid_value.specs.Rows.Kinds.{natural}
-use Rattle.kid_value.specs.SortOrder.{join}
 use Rattle.kid_value.specs.SortLimits.{is_allowed}
-use Rattle.kid_term.specs.PlainTerm.{PlainTerm, var, number, truth, tag, app, bind, PlainTerms, no_term, term}
+use Rattle.kid_term.specs.PlainTerm.{PlainTerm}
 use Rattle.kid_term.specs.Names.{Names, PlainDef}
-use Rattle.kid_term.specs.Sorted.{Sorted}
 use Rattle.kid_term.specs.Sorting.{sort_of}
-use Rattle.kid_sorting.specs.Declaring.{are_allowed, is_truth, is_sorted_definition, is_shallow}
+use Rattle.kid_sorting.specs.Declaring.{is_truth, is_sorted_definition, is_shallow}
 use Rattle.kid_codec.specs.Name.{is_name}
 pub use Rattle.kid_codec.specs.Shape.{begins}
-use Rattle.kid_term.specs.PlainLaw.{PlainConclusion, equal, holds, PlainLaw}
+use Rattle.kid_term.specs.PlainLaw.{PlainLaw}
+use Rattle.kid_kernel.specs.SortedLaw.{is_sorted_law}
 use Rattle.kid_theory.specs.Judged.{Judged, ◌>>=◌, shaped, tested}
 use Rattle.kid_theory.specs.Taken.{Taken, is_free, are_free}
 use Rattle.kid_theory.specs.Ahead.{calls_ahead}
@@ -22,8 +20,8 @@ use Rattle.kid_theory.specs.declared.fault.TheoryCode.TheVariants as code
 
 -- ---- (theory NAME)
 
-abbrev pub title_form : Plain → Judged (Unit {0})
-title_form t = shaped (lone_word (codes "theory") t) >>= λ w. tested (is_name w) code.Name (Ok tt)
+abbrev pub title_form : Plain → Judged (List ℕ)
+title_form t = shaped (lone_word (codes "theory") t) >>= λ w. tested (is_name w) code.Name (Ok w)
 
 -- ---- (def NAME ((NAME SORT) ..) SORT TERM), after these definitions and before the other forms
 
@@ -63,39 +61,6 @@ abbrev pub first_form : Plain → Judged ℕ
 first_form t = shaped (lone_number (codes "first") t) >>= counted
 
 -- ---- (axiom NAME ((NAME SORT) ..) (given TERM ..) CONCLUSION)
-
--- no binder stands in the term
-abbrev mutual
-  pub is_unbound : PlainTerm → Bool
-  is_unbound (var x) = true
-  is_unbound (number n) = true
-  is_unbound (truth b) = true
-  is_unbound (tag n) = true
-  is_unbound (app h ts) = are_unbound ts
-  is_unbound (bind b x s t) = false
-
-  pub are_unbound : PlainTerms → Bool
-  are_unbound no_term = true
-  are_unbound (term t ts) = is_unbound t && are_unbound ts
-
--- a condition of a law
-abbrev pub is_condition : List PlainDef → Names → PlainTerm → Bool
-is_condition defs names c = is_unbound c && is_truth (sort_of defs names c)
-
--- both sorts are there and have a common one
-abbrev pub have_common : Sorted → Sorted → Bool
-have_common (Ok a) (Ok b) = is_some (join a b)
-have_common r s = false
-
-abbrev pub is_sorted_conclusion : List PlainDef → Names → PlainConclusion → Bool
-is_sorted_conclusion defs names (equal l r) = is_unbound l && is_unbound r && have_common (sort_of defs names l) (sort_of defs names r)
-is_sorted_conclusion defs names (holds c) = is_condition defs names c
-
--- variables of allowed sorts, and conditions and a conclusion without binders that have sorts over the inputs and the variables
-abbrev pub is_sorted_law : List PlainDef → Names → PlainLaw → Bool
-is_sorted_law defs inputs l =
-    are_allowed l.variables && list_all (is_condition defs (inputs ++ l.variables)) l.conditions
-    && is_sorted_conclusion defs (inputs ++ l.variables) l.conclusion
 
 -- the name differs from all names before and from the variables of the laws before, the variables from all names and from it
 abbrev pub is_named_law : Taken → Taken → PlainLaw → Bool

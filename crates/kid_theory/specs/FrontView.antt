@@ -5,6 +5,7 @@ use Rattle.kid_theory.specs.declared.reader.Front.{Front}
 
 abbrev pub plain_front : Front → plain.Front
 plain_front f = record {
+  title = f.title;
   definitions = f.definitions;
   inputs = f.inputs;
   taken = f.taken;

@@ -1,10 +1,12 @@
 pub mod Ahead
 pub mod Answers
+pub mod FileView
 pub mod Formed
 pub mod Forms
 pub mod FrontView
-pub mod IsTheory
+pub mod IsRead
 pub mod Judged
+pub mod PlainFile
 pub mod Reading
 pub mod Shapes
 pub mod Spelling

@@ -1,4 +1,4 @@
--- The theory that a file spells, or the first form that is refused.
+-- The theory file that bytes spell, or the first form that is refused.
 use Rattle.std.specs.Prelude.{ℕ, suc, nat_le, List, [], ◌∷◌, ◌++◌, Some, None, Result, Ok, Err, if◌then◌else◌, length, codes}
 use Rattle.kid_sexp.specs.Plain.{Plains, none, more}
 use Rattle.kid_sexp.specs.Brackets.{Fault}
@@ -8,8 +8,10 @@ use Rattle.kid_term.specs.PlainTerm.{PlainTerm}
 use Rattle.kid_term.specs.Names.{Names, PlainDef}
 use Rattle.kid_term.specs.PlainLaw.{PlainLaw}
 use Rattle.kid_term.specs.PlainTheory.{PlainTheory}
+use Rattle.kid_kernel.specs.Differ.{words_of}
 use Rattle.kid_theory.specs.Judged.{Judged}
-use Rattle.kid_theory.specs.Taken.{Taken, words_of}
+use Rattle.kid_theory.specs.PlainFile.{PlainFile, theory_of}
+use Rattle.kid_theory.specs.Taken.{Taken}
 use Rattle.kid_theory.specs.Forms.{begins, title_form, definition_form, input_form, output_form, condition_form, first_form, axiom_form}
 use Rattle.kid_theory.specs.declared.fault.TheoryCode.{TheoryCode}
 use Rattle.kid_theory.specs.declared.fault.TheoryCode.TheVariants as code
@@ -30,8 +32,9 @@ numbered k (Err c) = refused k c
 abbrev pub at : {A : Type 0} → ℕ → Judged A → Read A
 at k form = if nat_le k 1024 then numbered k form else refused k code.Limit
 
--- What the forms before hold: the definitions, the inputs, the names that are declared, the condition, the axioms and their variables.
+-- What the forms before hold: the title, the definitions, the inputs, the names that are declared, the condition, the axioms and their variables.
 pub record Front : Type 0 where
+  pub title : List ℕ
   pub definitions : List PlainDef
   pub inputs : Names
   pub taken : Taken
@@ -42,72 +45,84 @@ pub record Front : Type 0 where
 abbrev pub with_axiom : Front → PlainLaw → Front
 with_axiom f a = record f { taken = f.taken ++ a.name ∷ []; axioms = f.axioms ++ a ∷ []; variables = f.variables ++ words_of a.variables }
 
-abbrev pub theory_with : Front → List ℕ × PlainSort → PlainTerm → PlainTheory
-theory_with f output relation = record {
-  signature = record { definitions = f.definitions; inputs = f.inputs };
-  laws = [];
-  axioms = f.axioms;
-  spec = record { inputs = f.inputs; condition = f.condition; output = output.0; sort = output.1; relation = relation; first = None };
+abbrev pub file_with : Front → List ℕ × PlainSort → PlainTerm → PlainFile
+file_with f output relation = record {
+  title = f.title;
+  definitions = f.definitions;
+  inputs = f.inputs;
+  condition = f.condition;
+  laws = f.axioms;
+  output = output.0;
+  sort = output.1;
+  relation = relation;
+  first = None;
 }
 
 -- Of each of the following the number is that of the forms before.
 
 -- no form stands after the last
-abbrev pub at_end : ℕ → PlainTheory → Plains → Read PlainTheory
-at_end k t none = Ok t
-at_end k t (more u us) = at (suc k) (Err code.Form)
+abbrev pub at_end : ℕ → PlainFile → Plains → Read PlainFile
+at_end k f none = Ok f
+at_end k f (more u us) = at (suc k) (Err code.Form)
 
--- the theory with so many answers wanted
-abbrev pub with_first : PlainTheory → ℕ → PlainTheory
-with_first t n = record t { spec = record t.spec { first = Some n } }
+-- the file with so many answers wanted
+abbrev pub with_first : PlainFile → ℕ → PlainFile
+with_first f n = record f { first = Some n }
 
-abbrev pub after_relation : ℕ → PlainTheory → Plains → Read PlainTheory
-after_relation k t none = Ok t
-after_relation k t (more u us) = at (suc k) (first_form u) >>= λ n. at_end (suc k) (with_first t n) us
+abbrev pub after_relation : ℕ → PlainFile → Plains → Read PlainFile
+after_relation k f none = Ok f
+after_relation k f (more u us) = at (suc k) (first_form u) >>= λ n. at_end (suc k) (with_first f n) us
 
-abbrev pub after_output : ℕ → Front → List ℕ × PlainSort → Plains → Read PlainTheory
+abbrev pub after_output : ℕ → Front → List ℕ × PlainSort → Plains → Read PlainFile
 after_output k f output none = refused (suc k) code.Form
 after_output k f output (more t ts) =
     at (suc k) (condition_form (codes "ensure") f.definitions (f.inputs ++ output ∷ []) t)
-    >>= λ relation. after_relation (suc k) (theory_with f output relation) ts
+    >>= λ relation. after_relation (suc k) (file_with f output relation) ts
 
-abbrev pub after_condition : ℕ → Front → Plains → Read PlainTheory
+abbrev pub after_condition : ℕ → Front → Plains → Read PlainFile
 after_condition k f none = refused (suc k) code.Form
 after_condition k f (more t ts) =
     if begins (codes "axiom") t
     then (at (suc k) (axiom_form f.definitions f.inputs f.taken f.variables t) >>= λ a. after_condition (suc k) (with_axiom f a) ts)
     else (at (suc k) (output_form (f.taken ++ f.variables) t) >>= λ output. after_output (suc k) f output ts)
 
-abbrev pub front_of : List PlainDef → Names → Taken → PlainTerm → Front
-front_of defs inputs taken condition =
-    record { definitions = defs; inputs = inputs; taken = taken; condition = condition; axioms = []; variables = [] }
+abbrev pub front_of : List ℕ → List PlainDef → Names → Taken → PlainTerm → Front
+front_of title defs inputs taken condition =
+    record { title = title; definitions = defs; inputs = inputs; taken = taken; condition = condition; axioms = []; variables = [] }
 
--- after definitions and inputs with these names
-abbrev pub after_inputs : ℕ → List PlainDef → Names → Taken → Plains → Read PlainTheory
-after_inputs k defs inputs taken none = refused (suc k) code.Form
-after_inputs k defs inputs taken (more t ts) =
+-- after the title, and definitions and inputs with these names
+abbrev pub after_inputs : ℕ → List ℕ → List PlainDef → Names → Taken → Plains → Read PlainFile
+after_inputs k title defs inputs taken none = refused (suc k) code.Form
+after_inputs k title defs inputs taken (more t ts) =
     if begins (codes "input") t
-    then (at (suc k) (input_form inputs taken t) >>= λ n. after_inputs (suc k) defs (inputs ++ n ∷ []) (taken ++ n.0 ∷ []) ts)
+    then (at (suc k) (input_form inputs taken t) >>= λ n. after_inputs (suc k) title defs (inputs ++ n ∷ []) (taken ++ n.0 ∷ []) ts)
     else (at (suc k) (condition_form (codes "require") defs inputs t)
-    >>= λ condition. after_condition (suc k) (front_of defs inputs taken condition) ts)
+    >>= λ condition. after_condition (suc k) (front_of title defs inputs taken condition) ts)
 
--- after definitions with these names
-abbrev pub after_definitions : ℕ → List PlainDef → Taken → Plains → Read PlainTheory
-after_definitions k defs taken none = refused (suc k) code.Form
-after_definitions k defs taken (more t ts) =
+-- after the title, and definitions with these names
+abbrev pub after_definitions : ℕ → List ℕ → List PlainDef → Taken → Plains → Read PlainFile
+after_definitions k title defs taken none = refused (suc k) code.Form
+after_definitions k title defs taken (more t ts) =
     if begins (codes "def") t
-    then (at (suc k) (definition_form defs taken ts t) >>= λ d. after_definitions (suc k) (defs ++ d ∷ []) (taken ++ d.name ∷ []) ts)
-    else after_inputs k defs [] taken (more t ts)
+    then (at (suc k) (definition_form defs taken ts t) >>= λ d. after_definitions (suc k) title (defs ++ d ∷ []) (taken ++ d.name ∷ []) ts)
+    else after_inputs k title defs [] taken (more t ts)
 
--- the forms of a theory
-abbrev pub theory_from : Plains → Read PlainTheory
-theory_from none = refused 1 code.Form
-theory_from (more t ts) = at 1 (title_form t) >>= λ _. after_definitions 1 [] [] ts
+-- the forms of a theory file
+abbrev pub file_from : Plains → Read PlainFile
+file_from none = refused 1 code.Form
+file_from (more t ts) = at 1 (title_form t) >>= λ title. after_definitions 1 title [] [] ts
 
-abbrev pub from_forest : Result Plains Fault → Read PlainTheory
+abbrev pub from_forest : Result Plains Fault → Read PlainFile
 from_forest (Err fault) = refused 0 code.Read
-from_forest (Ok ts) = theory_from ts
+from_forest (Ok ts) = file_from ts
 
--- the theory that a file of at most 4,194,304 bytes spells
+-- the theory file that at most 4,194,304 bytes spell
+abbrev pub file_reading : List ℕ → Read PlainFile
+file_reading bytes = if nat_le (length bytes) 4194304 then from_forest (reading bytes) else refused 0 code.Large
+
+abbrev pub theory_found : Read PlainFile → Read PlainTheory
+theory_found r = r >>= λ f. Ok (theory_of f)
+
+-- the theory of the file
 abbrev pub theory_reading : List ℕ → Read PlainTheory
-theory_reading bytes = if nat_le (length bytes) 4194304 then from_forest (reading bytes) else refused 0 code.Large
+theory_reading bytes = theory_found (file_reading bytes)

@@ -1,15 +1,12 @@
--- A theory as a forest.
-use Rattle.std.specs.Prelude.{◌≡◌, ℕ, pos, true, List, [], ◌∷◌, Option, Some, None, Ok, codes}
+-- A theory file as a forest.
+use Rattle.std.specs.Prelude.{ℕ, pos, List, [], ◌∷◌, Option, Some, None, codes}
 use Rattle.kid_sexp.specs.Plain.{Plain, Plains, atom, list, none, more, one}
-use Rattle.kid_sexp.specs.Spells.{Spells}
 use Rattle.kid_term.specs.PlainTerm.{term_row}
 use Rattle.kid_codec.specs.DeclaredSpelling.{named_spelling, names_spelling, definitions_before, inputs_before}
-use Rattle.kid_codec.specs.Name.{is_name}
 use Rattle.kid_codec.specs.SortSpelling.{headed, number_tree}
 use Rattle.kid_codec.specs.TermSpelling.{term_spelling, term_spellings}
 use Rattle.kid_term.specs.PlainLaw.{PlainConclusion, equal, holds, PlainLaw}
-use Rattle.kid_term.specs.PlainTheory.{PlainTheory}
-use Rattle.kid_theory.specs.Reading.{theory_reading}
+use Rattle.kid_theory.specs.PlainFile.{PlainFile, output_of}
 
 abbrev pub conclusion_spelling : PlainConclusion → Plain
 conclusion_spelling (equal l r) = headed (codes "equal") (more (term_spelling l) (one (term_spelling r)))
@@ -35,28 +32,19 @@ abbrev pub first_before : Option ℕ → Plains → Plains
 first_before None rest = rest
 first_before (Some n) rest = more (first_spelling n) rest
 
-abbrev pub last_forms : PlainTheory → Plains
-last_forms t =
-    more (headed (codes "output") (named_spelling (t.spec.output, t.spec.sort)))
-    (more (headed (codes "ensure") (one (term_spelling t.spec.relation))) (first_before t.spec.first none))
+abbrev pub last_forms : PlainFile → Plains
+last_forms f =
+    more (headed (codes "output") (named_spelling (output_of f)))
+    (more (headed (codes "ensure") (one (term_spelling f.relation))) (first_before f.first none))
 
 -- the forms after the inputs
-abbrev pub later_forms : PlainTheory → Plains
-later_forms t = more (headed (codes "require") (one (term_spelling t.spec.condition))) (axioms_before t.axioms (last_forms t))
+abbrev pub later_forms : PlainFile → Plains
+later_forms f = more (headed (codes "require") (one (term_spelling f.condition))) (axioms_before f.laws (last_forms f))
 
--- the forms of a theory of this name in their order
-abbrev pub theory_spelling : List ℕ → PlainTheory → Plains
-theory_spelling name t =
-    more (headed (codes "theory") (one (atom name)))
-    (definitions_before t.signature.definitions (inputs_before t.spec.inputs (later_forms t)))
+-- the forms after the definitions
+abbrev pub from_inputs : PlainFile → Plains
+from_inputs f = inputs_before f.inputs (later_forms f)
 
--- the bytes are the forms of the theory under some name, which no theory keeps
-pub record IsSpelledBy (bytes : List ℕ) (t : PlainTheory) : Type 0 where
-  pub name : List ℕ
-  pub named : is_name name ≡ true
-  pub no_laws : t.laws ≡ []
-  pub spells : Spells bytes (theory_spelling name t)
-
--- each theory that is read is the one that the file's forms spell
-abbrev pub TheoriesAreSpelled : Type 0
-TheoriesAreSpelled = (bytes : List ℕ) (t : PlainTheory) → theory_reading bytes ≡ Ok t → IsSpelledBy bytes t
+-- the forms of a theory file in their order
+abbrev pub file_spelling : PlainFile → Plains
+file_spelling f = more (headed (codes "theory") (one (atom f.title))) (definitions_before f.definitions (from_inputs f))

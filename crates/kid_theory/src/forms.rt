@@ -34,15 +34,15 @@ pub fn begins(word: &[u8], tree: &Tree) -> bool
     form(word, tree).is_some()
 }
 
-/// `(theory NAME)`.
-pub fn title_form(alloc: Global, tree: &Tree) -> Result<(), TheoryCode>
-    ensures { Judges (λ u. u) result (title_form (plain tree.now)) }
+/// The name of `(theory NAME)`.
+pub fn title_form(alloc: Global, tree: &Tree) -> Result<Text, TheoryCode>
+    ensures { Judges (λ w. w) result (title_form (plain tree.now)) }
 {
     let name = lone_word(alloc, b"theory", tree)?;
     if !is_name(name.as_slice()) {
         return Err(TheoryCode::Name);
     }
-    Ok(())
+    Ok(name)
 }
 
 /// The definitions before a form, the depth of each, and their names.

@@ -3,6 +3,7 @@
 
 mod ahead;
 mod fault;
+mod file;
 mod forms;
 mod law;
 mod law_form;
@@ -11,7 +12,5 @@ mod reader;
 mod shape;
 
 pub use fault::{TheoryCode, TheoryFault};
-pub use law::{
-    formed_theories_are_read, read_theories, read_theories_are_formed, theories_are_spelled,
-};
+pub use law::files_are_read;
 pub use reader::read_theory;

@@ -1,23 +1,12 @@
 //! Names that are declared.
 ghost use Rattle.std.specs.Prelude.{◌≡◌, ◌∷◌, ◌++◌, [], IfOk, OnOk, map};
 ghost use Rattle.kid_value.specs.NameView.{plain_name};
-ghost use Rattle.kid_theory.specs.Taken.{is_taken, is_free, are_free, words_of};
+ghost use Rattle.kid_kernel.specs.Differ.{words_of};
+ghost use Rattle.kid_theory.specs.Taken.{is_free, are_free};
 
 use kid_codec::is_name;
-use kid_term::substitute::is_same;
-use kid_value::{Memory, Names, Text, Texts};
+use kid_value::{Memory, Names, Text, Texts, is_among};
 use std::alloc::Global;
-
-fn is_among(x: &Text, taken: &[Text]) -> bool
-    ensures { result ≡ is_taken x.now taken.now }
-{
-    for name in taken {
-        if is_same(x, name) {
-            return true;
-        }
-    }
-    false
-}
 
 /// Whether the word is a name that nothing declared before has.
 pub fn is_free(taken: &Texts, x: &Text) -> bool

@@ -1,4 +1,4 @@
-//! The theory that a file spells.
+//! Reads a theory file form by form.
 ghost use Rattle.std.specs.Prelude.{◌≡◌, ◌≤◌, ◌<◌, ◌+◌, ◌^◌, ◌∷◌, ◌++◌, [], IfOk, length, codes};
 ghost use Rattle.kid_sexp.specs.Tree.{plain, plains};
 ghost use Rattle.kid_value.specs.NameView.{plain_name};
@@ -10,21 +10,22 @@ ghost use Rattle.kid_kernel.specs.LawView.{plain_axiom};
 ghost use Rattle.kid_kernel.specs.TheoryView.{plain_theory};
 ghost use Rattle.kid_theory.specs.Answers.{Judges, Reads, fault_at, placed, located};
 ghost use Rattle.kid_theory.specs.Forms.{condition_form as condition_form_of, output_form as output_form_of, axiom_form as axiom_form_of, definition_form as definition_form_of};
+ghost use Rattle.kid_theory.specs.FileView.{plain_file};
+ghost use Rattle.kid_theory.specs.Formed.{IsSpelledBy};
 ghost use Rattle.kid_theory.specs.FrontView.{plain_front};
-ghost use Rattle.kid_theory.specs.IsTheory.{IsTheory};
-ghost use Rattle.kid_theory.specs.Reading.{theory_with, with_axiom, front_of, at_end, after_relation, after_output, after_condition, after_inputs, after_definitions, theory_from, theory_reading};
-ghost use Rattle.kid_theory.specs.Spelling.{IsSpelledBy};
+ghost use Rattle.kid_theory.specs.IsRead.{IsRead};
+ghost use Rattle.kid_theory.specs.Reading.{file_with, with_axiom, front_of, at_end, after_relation, after_output, after_condition, after_inputs, after_definitions, file_from, file_reading, theory_reading};
 
 use crate::fault::{TheoryCode, TheoryFault};
+use crate::file::{TheoryFile, theory_of};
 use crate::forms::{
     Known, begins, condition_form, definition_form, first_form, input_form, output_form, title_form,
 };
 use crate::law_form::axiom_form;
 use crate::names::{add_words, declare, joined as joined_texts};
-use kid_kernel::{Axiom, Axioms, Laws, Spec, Theory};
+use kid_kernel::{Axiom, Axioms, Theory};
 use kid_sexp::{ReadFault, Tree, read};
-use kid_sorting::Signature;
-use kid_sorting::names::{copied, with_name};
+use kid_sorting::names::with_name;
 use kid_term::{CallDepths, Def, Defs, Term};
 use kid_value::{Memory, Names, Sort, Text, Texts};
 use std::alloc::Global;
@@ -35,9 +36,10 @@ const MAX_BYTES: usize = 4_194_304;
 /// A theory has no more forms.
 const MAX_FORMS: u32 = 1024;
 
-/// The definitions so far, the depth of each, and their names.
+/// The title, the definitions so far, the depth of each, and their names.
 #[derive(Drop)]
 struct Definitions {
+    title: Text,
     all: Defs,
     depths: CallDepths,
     taken: Texts,
@@ -75,6 +77,7 @@ fn at<T: Drop>(number: u32, found: Result<T, TheoryCode>) -> Result<T, TheoryFau
 /// What the forms before hold, once the condition is among them.
 #[derive(Drop)]
 struct Front {
+    title: Text,
     definitions: Defs,
     inputs: Names,
     taken: Texts,
@@ -83,61 +86,57 @@ struct Front {
     variables: Texts,
 }
 
-fn theory_with(
-    alloc: Global,
-    front: Front,
-    output: Text,
-    sort: Sort,
-    relation: Term,
-) -> Result<Theory, Memory>
-    ensures { IfOk result (λ t. plain_theory t ≡ theory_with (plain_front front) (output, plain_sort sort) (plain_term relation)) }
+fn file_with(front: Front, output: Text, sort: Sort, relation: Term) -> TheoryFile
+    ensures { plain_file result ≡ file_with (plain_front front) (output, plain_sort sort) (plain_term relation) }
 {
     let Front {
+        title,
         definitions,
         inputs,
         condition,
         axioms,
         ..
     } = front;
-    let spec = Spec {
-        inputs: copied(alloc, &inputs)?,
+    TheoryFile {
+        title,
+        definitions,
+        inputs,
         condition,
+        laws: axioms,
         output,
         sort,
         relation,
         first: None,
-    };
-    Ok(Theory {
-        signature: Signature::from_parts(definitions, inputs),
-        laws: Laws::new(alloc),
-        axioms,
-        spec,
-    })
+    }
 }
 
-/// The theory, where no form stands after the last. Of this and each function below, `before` counts the forms before the trees.
-fn at_end(before: u32, theory: Theory, trees: &[Tree]) -> Result<Theory, TheoryFault>
+/// The file, where no form stands after the last. Of this and each function below, `before` counts the forms before the trees.
+fn at_end(before: u32, file: TheoryFile, trees: &[Tree]) -> Result<TheoryFile, TheoryFault>
     requires { before + length trees.now + 1 < 2 ^ 32 }
-    ensures { Reads plain_theory result (at_end before (plain_theory theory) (plains trees.now)) }
+    ensures { Reads plain_file result (at_end before (plain_file file) (plains trees.now)) }
 {
     if trees.is_empty() {
-        Ok(theory)
+        Ok(file)
     } else {
         at(before + 1, Err(TheoryCode::Form))
     }
 }
 
-fn after_relation(before: u32, mut theory: Theory, trees: &[Tree]) -> Result<Theory, TheoryFault>
+fn after_relation(
+    before: u32,
+    mut file: TheoryFile,
+    trees: &[Tree],
+) -> Result<TheoryFile, TheoryFault>
     requires { before + length trees.now + 1 < 2 ^ 32 }
-    ensures { Reads plain_theory result (after_relation before (plain_theory theory) (plains trees.now)) }
+    ensures { Reads plain_file result (after_relation before (plain_file file) (plains trees.now)) }
 {
     let number = before + 1;
     let Some((tree, rest)) = trees.split_first() else {
-        return Ok(theory);
+        return Ok(file);
     };
     let count = at(number, first_form(tree))?;
-    theory.spec.first = Some(count);
-    at_end(number, theory, rest)
+    file.first = Some(count);
+    at_end(number, file, rest)
 }
 
 /// The names that the relation sees, and then the relation.
@@ -161,17 +160,17 @@ fn after_output(
     output: Text,
     sort: Sort,
     trees: &[Tree],
-) -> Result<Theory, TheoryFault>
+) -> Result<TheoryFile, TheoryFault>
     requires { before + length trees.now + 1 < 2 ^ 32 }
-    ensures { Reads plain_theory result (after_output before (plain_front front) (output, plain_sort sort) (plains trees.now)) }
+    ensures { Reads plain_file result (after_output before (plain_front front) (output, plain_sort sort) (plains trees.now)) }
 {
     let number = before + 1;
     let Some((tree, rest)) = trees.split_first() else {
         return Err(fault_at(number, TheoryCode::Form));
     };
     let relation = at(number, relation_form(alloc, &front, &output, &sort, tree))?;
-    let theory = theory_with(alloc, front, output, sort, relation)?;
-    after_relation(number, theory, rest)
+    let file = file_with(front, output, sort, relation);
+    after_relation(number, file, rest)
 }
 
 /// The output's name and sort, which no name before has and no variable of an axiom.
@@ -201,6 +200,7 @@ fn with_axiom(alloc: Global, front: Front, law: Axiom) -> Result<Front, Memory>
     ensures { IfOk result (λ f. plain_front f ≡ with_axiom (plain_front front) (plain_axiom law)) }
 {
     let Front {
+        title,
         definitions,
         inputs,
         mut taken,
@@ -212,6 +212,7 @@ fn with_axiom(alloc: Global, front: Front, law: Axiom) -> Result<Front, Memory>
     add_words(alloc, &mut variables, &law.variables)?;
     axioms.push(law)?;
     Ok(Front {
+        title,
         definitions,
         inputs,
         taken,
@@ -226,9 +227,9 @@ fn after_condition(
     before: u32,
     front: Front,
     trees: &[Tree],
-) -> Result<Theory, TheoryFault>
+) -> Result<TheoryFile, TheoryFault>
     requires { before + length trees.now + 1 < 2 ^ 32 }
-    ensures { Reads plain_theory result (after_condition before (plain_front front) (plains trees.now)) }
+    ensures { Reads plain_file result (after_condition before (plain_front front) (plains trees.now)) }
 {
     let number = before + 1;
     let Some((tree, rest)) = trees.split_first() else {
@@ -244,10 +245,18 @@ fn after_condition(
     }
 }
 
-fn front_of(alloc: Global, definitions: Defs, inputs: Names, taken: Texts, condition: Term) -> Front
-    ensures { plain_front result ≡ front_of definitions inputs taken (plain_term condition) }
+fn front_of(
+    alloc: Global,
+    title: Text,
+    definitions: Defs,
+    inputs: Names,
+    taken: Texts,
+    condition: Term,
+) -> Front
+    ensures { plain_front result ≡ front_of title definitions inputs taken (plain_term condition) }
 {
     Front {
+        title,
         definitions,
         inputs,
         taken,
@@ -272,13 +281,14 @@ fn requirement(
 fn after_inputs(
     alloc: Global,
     before: u32,
+    title: Text,
     definitions: Defs,
     inputs: Names,
     taken: Texts,
     trees: &[Tree],
-) -> Result<Theory, TheoryFault>
+) -> Result<TheoryFile, TheoryFault>
     requires { before + length trees.now + 1 < 2 ^ 32 }
-    ensures { Reads plain_theory result (after_inputs before definitions inputs taken (plains trees.now)) }
+    ensures { Reads plain_file result (after_inputs before title definitions inputs taken (plains trees.now)) }
 {
     let number = before + 1;
     let Some((tree, rest)) = trees.split_first() else {
@@ -290,10 +300,10 @@ fn after_inputs(
         let mut taken = taken;
         declare(alloc, &mut taken, &name)?;
         inputs.push(name, sort)?;
-        after_inputs(alloc, number, definitions, inputs, taken, rest)
+        after_inputs(alloc, number, title, definitions, inputs, taken, rest)
     } else {
         let condition = at(number, requirement(alloc, &definitions, &inputs, tree))?;
-        let front = front_of(alloc, definitions, inputs, taken, condition);
+        let front = front_of(alloc, title, definitions, inputs, taken, condition);
         after_condition(alloc, number, front, rest)
     }
 }
@@ -306,9 +316,10 @@ fn with_definition(
     definition: Def,
 ) -> Result<Definitions, Memory>
     requires { known.depths ≡ depths_of known.all }
-    ensures { IfOk result (λ k. (k.all ≡ known.all ++ plain_def definition ∷ []) × (k.depths ≡ depths_of k.all) × (k.taken ≡ known.taken ++ definition.name ∷ [])) }
+    ensures { IfOk result (λ k. (k.title ≡ known.title) × (k.all ≡ known.all ++ plain_def definition ∷ []) × (k.depths ≡ depths_of k.all) × (k.taken ≡ known.taken ++ definition.name ∷ [])) }
 {
     let Definitions {
+        title,
         mut all,
         mut depths,
         mut taken,
@@ -317,7 +328,12 @@ fn with_definition(
     depths.push(definition.name.copy(alloc)?, depth)?;
     declare(alloc, &mut taken, &definition.name)?;
     all.push(definition)?;
-    Ok(Definitions { all, depths, taken })
+    Ok(Definitions {
+        title,
+        all,
+        depths,
+        taken,
+    })
 }
 
 /// The definition of a form, after those that are known.
@@ -343,10 +359,10 @@ fn after_definitions(
     before: u32,
     known: Definitions,
     trees: &[Tree],
-) -> Result<Theory, TheoryFault>
+) -> Result<TheoryFile, TheoryFault>
     requires count { before + length trees.now + 1 < 2 ^ 32 }
     requires depths { known.depths ≡ depths_of known.all }
-    ensures { Reads plain_theory result (after_definitions before known.all known.taken (plains trees.now)) }
+    ensures { Reads plain_file result (after_definitions before known.title known.all known.taken (plains trees.now)) }
 {
     let number = before + 1;
     let Some((tree, rest)) = trees.split_first() else {
@@ -357,20 +373,26 @@ fn after_definitions(
         let known = with_definition(alloc, known, definition)?;
         after_definitions(alloc, number, known, rest)
     } else {
-        let Definitions { all, taken, .. } = known;
-        after_inputs(alloc, before, all, Names::new(alloc), taken, trees)
+        let Definitions {
+            title,
+            all,
+            taken,
+            ..
+        } = known;
+        after_inputs(alloc, before, title, all, Names::new(alloc), taken, trees)
     }
 }
 
-fn theory_from(alloc: Global, trees: &[Tree]) -> Result<Theory, TheoryFault>
+fn file_from(alloc: Global, trees: &[Tree]) -> Result<TheoryFile, TheoryFault>
     requires { length trees.now + 1 < 2 ^ 32 }
-    ensures { Reads plain_theory result (theory_from (plains trees.now)) }
+    ensures { Reads plain_file result (file_from (plains trees.now)) }
 {
     let Some((tree, rest)) = trees.split_first() else {
         return Err(fault_at(1, TheoryCode::Form));
     };
-    at(1, title_form(alloc, tree))?;
+    let title = at(1, title_form(alloc, tree))?;
     let none = Definitions {
+        title,
         all: Defs::new(alloc),
         depths: CallDepths::new(alloc),
         taken: Texts::new(alloc),
@@ -378,8 +400,8 @@ fn theory_from(alloc: Global, trees: &[Tree]) -> Result<Theory, TheoryFault>
     after_definitions(alloc, 1, none, rest)
 }
 
-fn read_file(alloc: Global, bytes: &[u8]) -> Result<Theory, TheoryFault>
-    ensures { Reads plain_theory result (theory_reading bytes.now) }
+fn read_file(alloc: Global, bytes: &[u8]) -> Result<TheoryFile, TheoryFault>
+    ensures { Reads plain_file result (file_reading bytes.now) }
 {
     if bytes.len() > MAX_BYTES {
         return Err(TheoryFault {
@@ -388,7 +410,7 @@ fn read_file(alloc: Global, bytes: &[u8]) -> Result<Theory, TheoryFault>
         });
     }
     match read(alloc, bytes) {
-        Ok(forest) => theory_from(alloc, forest.as_slice()),
+        Ok(forest) => file_from(alloc, forest.as_slice()),
         Err(ReadFault::Memory) => Err(TheoryFault::from(Memory)),
         Err(_) => Err(TheoryFault {
             form: 0,
@@ -432,8 +454,9 @@ fn read_file(alloc: Global, bytes: &[u8]) -> Result<Theory, TheoryFault>
 #[tactic(auto, using(crate::proofs::Laws::read_result))]
 pub fn read_theory(alloc: Global, bytes: &[u8]) -> Result<Theory, TheoryFault>
     ensures reading { Reads plain_theory result (theory_reading bytes.now) }
-    ensures theory { IfOk result (λ t. IsTheory (plain_theory t)) }
+    ensures theory { IfOk result (λ t. IsRead (plain_theory t)) }
     ensures spelled { IfOk result (λ t. IsSpelledBy bytes.now (plain_theory t)) }
 {
-    read_file(alloc, bytes)
+    let file = read_file(alloc, bytes)?;
+    Ok(theory_of(alloc, file)?)
 }

@@ -7,7 +7,7 @@ use Rattle.kid_outer.specs.Held.{Held, update}
 use Rattle.kid_term.specs.Eval.{Env}
 use Rattle.kid_codec.proofs.Numbers.{bytes_eq-itself, bytes_eq-true}
 use Rattle.kid_term.specs.PlainTheory.{PlainTheory}
-use Rattle.kid_theory.specs.IsTheory.{IsTheory}
+use Rattle.kid_theory.specs.IsRead.{IsRead}
 use Rattle.kid_prog.specs.ProgramText.{program_text}
 use Rattle.kid_prog.specs.PlainProgram.{PlainProgram}
 use Rattle.kid_top.specs.declared.stop.Stop.{Stop}
@@ -36,7 +36,7 @@ emitted_finds t lo hi x can =
 pub searched_implements : (t : PlainTheory) (p : PlainProgram) → Searches t p → Implements t p
 searched_implements t p s x = subst (λ (q : PlainProgram). FindsAnswers t q x) (sym s.is) (emitted_finds t s.lo s.hi x s.can)
 
-pub derived_implements : (t : PlainTheory) (script : Option (List ℕ)) (p : PlainProgram) → IsTheory t → script_program t script ≡ Ok p → Implements t p
+pub derived_implements : (t : PlainTheory) (script : Option (List ℕ)) (p : PlainProgram) → IsRead t → script_program t script ≡ Ok p → Implements t p
 derived_implements t script p is e = searched_implements t p (script_searches t script p is e)
 
 -- ---- the work of deriving

@@ -18,7 +18,7 @@ use Rattle.kid_codec.specs.TermSpelling.{begin_with_numbers, is_spelled_head, is
 use Rattle.kid_codec.specs.Takes.{takes, numbers_first}
 use Rattle.kid_codec.proofs.Found.{same_some, if_some}
 use Rattle.kid_term.specs.PlainTheory.{PlainTheory}
-use Rattle.kid_theory.specs.IsTheory.{IsTheory}
+use Rattle.kid_theory.specs.IsRead.{IsRead}
 use Rattle.kid_prog.specs.PlainProgram.{PlainProgram}
 use Rattle.kid_prog.specs.Spelling.{is_spelled_stmt, is_spelled_program}
 use Rattle.kid_prog.proofs.ProgramParts.{spelled_whole}
@@ -167,7 +167,7 @@ are_ends lo hi h =
 
 -- ---- the program
 
-pub emitted_spelled : (t : PlainTheory) (p : PlainProgram) → IsTheory t → program_for t ≡ Some p → is_spelled_program p ≡ true
+pub emitted_spelled : (t : PlainTheory) (p : PlainProgram) → IsRead t → program_for t ≡ Some p → is_spelled_program p ≡ true
 emitted_spelled t p is e =
     let m = program_emits t p e in
     let lo : ℤ = m.lo in
@@ -188,7 +188,7 @@ emitted_spelled t p is e =
       inputs = e.1;
       condition = c.1;
       output = b.1;
-      wanted = is.wanted;
+      wanted = is.is_theory.wanted;
       main = alone _ (alone _ (and_both (in_limits lo) (in_limits hi && true) ends.low (alone (in_limits hi) ends.high)));
       parameters =
           and_both (is_spelled_name (codes "low", ints lo (hi +ℤ pos 1))) _ (and_both (is_name (codes "low")) (is_spelled_sort (ints lo (hi +ℤ pos 1))) low_name ends.lows)

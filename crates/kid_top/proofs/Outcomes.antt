@@ -2,7 +2,7 @@
 use Rattle.std.proofs.Common.{◌≡◌, ℕ, Bool, true, false, List, Option, Some, None, Result, Ok, Err, refl, sym, ap, ◌∙◌}
 use Rattle.std.specs.Prelude.{nat_le, length, if◌then◌else◌}
 use Rattle.kid_term.specs.PlainTheory.{PlainTheory}
-use Rattle.kid_theory.specs.IsTheory.{IsTheory}
+use Rattle.kid_theory.specs.IsRead.{IsRead}
 use Rattle.kid_theory.specs.Reading.{Read, theory_reading}
 use Rattle.kid_theory.proofs.Laws.{theories_read}
 use Rattle.kid_prog.specs.PlainProgram.{PlainProgram}
@@ -30,11 +30,11 @@ theory_or_ok : (r : Read PlainTheory) (t : PlainTheory) → theory_or r ≡ Ok t
 theory_or_ok (Ok u) t e = cc
 theory_or_ok (Err fault) t e = cc
 
-read_theory : (bytes : List ℕ) (t : PlainTheory) (fits : Bool) → theory_file (if fits then Some bytes else None) ≡ Ok t → IsTheory t
+read_theory : (bytes : List ℕ) (t : PlainTheory) (fits : Bool) → theory_file (if fits then Some bytes else None) ≡ Ok t → IsRead t
 read_theory bytes t true e = theories_read bytes t (theory_or_ok (theory_reading bytes) t e)
 read_theory bytes t false e = cc
 
-pub stage_theory : (k : ℕ) (file : Option (List ℕ)) (t : PlainTheory) → theory_stage k file ≡ Ok t → IsTheory t
+pub stage_theory : (k : ℕ) (file : Option (List ℕ)) (t : PlainTheory) → theory_stage k file ≡ Ok t → IsRead t
 stage_theory k None t e = cc
 stage_theory k (Some bytes) t e = read_theory bytes t (nat_le (length bytes) 4194304) e
 
@@ -59,11 +59,11 @@ pub record Gives (t : PlainTheory) (q : PlainProgram) : Type 0 where
   pub emits : program_for t ≡ Some q
   pub loads : loading (program_text q) ≡ Ok q
 
-pub script_gives : (t : PlainTheory) (script : Option (List ℕ)) (q : PlainProgram) → IsTheory t → script_program t script ≡ Ok q → Gives t q
+pub script_gives : (t : PlainTheory) (script : Option (List ℕ)) (q : PlainProgram) → IsRead t → script_program t script ≡ Ok q → Gives t q
 script_gives t script q is e =
     let a = script_program_ok t script q e in
     let same = texts_back a.0 q (emitted_spelled t a.0 is a.1) a.2 in
     record { emits = a.1 ∙ ap (λ (p : PlainProgram). Some p) (sym same); loads = ap (λ (p : PlainProgram). loading (program_text p)) same ∙ a.2 }
 
-pub script_searches : (t : PlainTheory) (script : Option (List ℕ)) (q : PlainProgram) → IsTheory t → script_program t script ≡ Ok q → Searches t q
+pub script_searches : (t : PlainTheory) (script : Option (List ℕ)) (q : PlainProgram) → IsRead t → script_program t script ≡ Ok q → Searches t q
 script_searches t script q is e = program_searches t q is (script_gives t script q is e).emits

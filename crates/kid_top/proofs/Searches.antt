@@ -2,7 +2,7 @@
 use Rattle.std.proofs.Common.{◌≡◌, ℤ, Some}
 use Rattle.kid_value.specs.PlainSort.{ints}
 use Rattle.kid_term.specs.PlainTheory.{PlainTheory}
-use Rattle.kid_theory.specs.IsTheory.{IsTheory}
+use Rattle.kid_theory.specs.IsRead.{IsRead}
 use Rattle.kid_prog.specs.PlainProgram.{PlainProgram}
 use Rattle.kid_top.specs.Emitted.{emitted, program_for}
 use Rattle.kid_top.proofs.EmittedCall.{Searchable}
@@ -16,7 +16,7 @@ pub record Searches (t : PlainTheory) (p : PlainProgram) : Type 0 where
   pub is : p ≡ emitted t lo hi
   pub can : Searchable t lo hi
 
-pub program_searches : (t : PlainTheory) (p : PlainProgram) → IsTheory t → program_for t ≡ Some p → Searches t p
+pub program_searches : (t : PlainTheory) (p : PlainProgram) → IsRead t → program_for t ≡ Some p → Searches t p
 program_searches t p is e =
     let m = program_emits t p e in
     record {
@@ -29,6 +29,6 @@ program_searches t p is e =
         ordered = (are_ends m.lo m.hi m.ends).ordered;
         apart = m.apart;
         takes = m.takes;
-        sorted = is.relation;
+        sorted = is.is_theory.relation;
       };
     }

@@ -3,7 +3,7 @@ ghost use Rattle.std.specs.Prelude.{◌≡◌, true, IfOk, IsErrOf};
 ghost use Rattle.std.specs.Bool.{OnFalse};
 ghost use Rattle.kid_outer.specs.Causes.{NeverFall, Rose};
 ghost use Rattle.kid_kernel.specs.TheoryView.{plain_theory};
-ghost use Rattle.kid_theory.specs.IsTheory.{IsTheory};
+ghost use Rattle.kid_theory.specs.IsRead.{IsRead};
 ghost use Rattle.kid_prog.specs.ProgramText.{program_text};
 ghost use Rattle.kid_prog.specs.Loading.{loading};
 ghost use Rattle.kid_prog.specs.ProgramView.{plain_program};
@@ -48,7 +48,7 @@ fn reloaded(alloc: Global, program: &Program) -> Result<Program, Stop>
 }
 
 fn emitted_program(alloc: Global, theory: &Theory) -> Result<Program, Stop>
-    requires { IsTheory (plain_theory theory.now) }
+    requires { IsRead (plain_theory theory.now) }
     ensures comes { Comes plain_program result (emitted_or (program_for (plain_theory theory.now))) }
     ensures runnable { IfOk result (λ p. IsRunnable (plain_program p)) }
     ensures spelled { IfOk result (λ p. is_spelled_program (plain_program p) ≡ true) }
@@ -69,7 +69,7 @@ pub fn script_program<S: Store>(
     theory: &Theory,
     script: &str,
 ) -> Result<Program, Stop>
-    requires { IsTheory (plain_theory theory.now) }
+    requires { IsRead (plain_theory theory.now) }
     ensures outcome { Outcomes (S.held store.old) plain_program result (λ files. script_program (plain_theory theory.now) (files script.now)) }
     ensures runnable { IfOk result (λ p. IsRunnable (plain_program p)) }
     ensures spelled { IfOk result (λ p. is_spelled_program (plain_program p) ≡ true) }

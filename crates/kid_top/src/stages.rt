@@ -3,7 +3,7 @@ ghost use Rattle.std.specs.Prelude.{◌≡◌, IfOk, IsErrOf, option_map};
 ghost use Rattle.std.specs.Bool.{OnFalse};
 ghost use Rattle.kid_outer.specs.Causes.{Rose, NeverFall};
 ghost use Rattle.kid_kernel.specs.TheoryView.{plain_theory};
-ghost use Rattle.kid_theory.specs.IsTheory.{IsTheory};
+ghost use Rattle.kid_theory.specs.IsRead.{IsRead};
 ghost use Rattle.kid_theory.specs.Reading.{theory_reading};
 ghost use Rattle.kid_prog.specs.ProgramView.{plain_program};
 ghost use Rattle.kid_prog.specs.Loading.{loading};
@@ -52,7 +52,7 @@ fn load<S: Store>(
 /// The theory that the bytes spell.
 fn theory_from(alloc: Global, bytes: &[u8]) -> Result<Theory, Stop>
     ensures comes { Comes plain_theory result (theory_or (theory_reading bytes.now)) }
-    ensures theory { IfOk result (λ t. IsTheory (plain_theory t)) }
+    ensures theory { IfOk result (λ t. IsRead (plain_theory t)) }
     ensures failed { IsErrOf result Stop.Failed → ⊥ }
     ensures fits { IsErrOf result Stop.Usage → ⊥ }
 {
@@ -71,7 +71,7 @@ fn theory_from(alloc: Global, bytes: &[u8]) -> Result<Theory, Stop>
 /// The theory that the first file spells.
 pub fn theory_stage<S: Store>(alloc: Global, store: &mut S, name: &str) -> Result<Theory, Stop>
     ensures outcome { Outcomes (S.held store.old) plain_theory result (λ files. theory_stage 1 (files name.now)) }
-    ensures theory { IfOk result (λ t. IsTheory (plain_theory t)) }
+    ensures theory { IfOk result (λ t. IsRead (plain_theory t)) }
     ensures held { S.held store.new ≡ S.held store.old }
     ensures failed { IsErrOf result Stop.Failed → Rose (S.faults store.old name.now) (S.faults store.new name.now) }
     ensures still { OnFalse (has_failed result) (S.faults store.new ≡ S.faults store.old) }

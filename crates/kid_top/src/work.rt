@@ -3,7 +3,7 @@ ghost use Rattle.std.specs.Prelude.{◌≡◌, ◌≢◌, [], IfOk, IsErrOf};
 ghost use Rattle.std.specs.Bool.{OnFalse};
 ghost use Rattle.kid_outer.specs.Causes.{NeverFall, Rose};
 ghost use Rattle.kid_kernel.specs.TheoryView.{plain_theory};
-ghost use Rattle.kid_theory.specs.IsTheory.{IsTheory};
+ghost use Rattle.kid_theory.specs.IsRead.{IsRead};
 ghost use Rattle.kid_prog.specs.ProgramView.{plain_program};
 ghost use Rattle.kid_prog.specs.Rules.{IsRunnable};
 ghost use Rattle.kid_top.specs.Command.{derive, run, solve};
@@ -96,7 +96,7 @@ fn solve_theory<'a, S: Store>(
     inputs: &str,
     fuel: u64,
 ) -> Result<Work<'a>, Stop>
-    requires { IsTheory (plain_theory theory.now) }
+    requires { IsRead (plain_theory theory.now) }
     ensures outcome { Outcomes (S.held store.old) plain_work result (λ files. solve_theory files script.now inputs.now fuel (plain_theory theory.now)) }
     ensures ready { IfOk result IsReady }
     ensures suits { IfOk result (λ w. Suits (solve [] script.now inputs.now fuel) (plain_work w)) }
@@ -140,7 +140,7 @@ fn derive_theory<'a, S: Store>(
     derivation: &'a str,
     program: &'a str,
 ) -> Result<Work<'a>, Stop>
-    requires theory { IsTheory (plain_theory theory.now) }
+    requires theory { IsRead (plain_theory theory.now) }
     requires apart { derivation.now ≢ program.now }
     ensures ready { IfOk result IsReady }
     ensures outcome { Outcomes (S.held store.old) plain_work result (λ files. derive_theory files script.now derivation.now program.now (plain_theory theory.now)) }

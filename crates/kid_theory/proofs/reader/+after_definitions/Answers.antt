@@ -1,12 +1,12 @@
 use Rattle.std.proofs.Common.{sym, ◌∙◌, ◌+◌, subst, arith}
-use Rattle.kid_kernel.specs.TheoryView.{plain_theory}
+use Rattle.kid_theory.specs.FileView.{plain_file}
 use Rattle.kid_theory.specs.Answers.{Reads}
 use Rattle.kid_theory.proofs.StageLemmas.{definition-next}
 use Rattle.kid_theory.proofs.reader.+after_definitions.Goals as goal
 
 pub returns-in_ok-known : goal.returns-in_ok-known
 returns-in_ok-known t c =
-    let e = definition-next c.args.before (c.args.before + 1) c.args.known.all c.in_ok-known.known.all c.args.known.taken c.in_ok-known.known.taken c.args.trees.now c.in-Some.rest.now c.in-Some.tree.now
+    let e = definition-next c.args.before (c.args.before + 1) c.args.known.title c.in_ok-known.known.title c.args.known.all c.in_ok-known.known.all c.args.known.taken c.in_ok-known.known.taken c.args.trees.now c.in-Some.rest.now c.in-Some.tree.now
     c.definition_after.result c.in_ok-definition.definition
-    (omega arith) c.in-Some.ensures.cases.0 (sym c.begins.ensures ∙ c.if-begins.true) c.definition_after.ensures (sym c.at.ensures ∙ c.in_ok-definition.was) c.in_ok-known.ensures.0 c.in_ok-known.ensures.2 in
-    subst (λ o. Reads plain_theory c.after_definitions.result o) (sym e) c.after_definitions.ensures
+    (omega arith) c.in-Some.ensures.cases.0 (sym c.begins.ensures ∙ c.if-begins.true) c.definition_after.ensures (sym c.at.ensures ∙ c.in_ok-definition.was) c.in_ok-known.ensures.0 c.in_ok-known.ensures.1 c.in_ok-known.ensures.3 in
+    subst (λ o. Reads plain_file c.after_definitions.result o) (sym e) c.after_definitions.ensures

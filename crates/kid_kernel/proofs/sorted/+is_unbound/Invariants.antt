@@ -1,8 +1,8 @@
 use Rattle.std.proofs.Common.{◌≡◌, ◌+◌, ◌*◌, ◌≤◌, drop, map}
 use Rattle.kid_term.specs.PlainTerm.{depth, depths, term_row}
 use Rattle.kid_term.specs.TermView.{plain_term}
-use Rattle.kid_theory.specs.Forms.{are_unbound}
-use Rattle.kid_theory.proofs.law_form.+is_unbound.Given as goal
+use Rattle.kid_kernel.specs.SortedLaw.{are_unbound}
+use Rattle.kid_kernel.proofs.sorted.+is_unbound.Given as goal
 
 abbrev pub decreases-is_unbound : goal.decreases-is_unbound
 decreases-is_unbound l = 2 * depth (plain_term l.term.now)

@@ -1,8 +1,8 @@
 -- Sorts of which one is not there have no common one.
 use Rattle.std.proofs.Common.{◌≡◌, false, None, Ok, Err, refl}
 use Rattle.kid_term.specs.Sorted.{Sorted}
-use Rattle.kid_theory.specs.Answers.{Sorts}
-use Rattle.kid_theory.specs.Forms.{have_common}
+use Rattle.kid_kernel.specs.SortedLaw.{Sorts}
+use Rattle.kid_kernel.specs.SortedLaw.{have_common}
 
 pub common-left : (r s : Sorted) → Sorts None r → have_common r s ≡ false
 common-left (Ok a) s h = absurd h

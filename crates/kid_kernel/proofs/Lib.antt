@@ -1,0 +1,3 @@
+pub mod CommonSorts
+pub mod Differing
+pub mod TheoryExampleProofs

@@ -1,0 +1,20 @@
+-- What holds of each theory that is read.
+use Rattle.std.specs.Prelude.{◌≡◌, Bool, true, ◌&&◌}
+use Rattle.std.specs.List.{list_all}
+use Rattle.kid_codec.specs.DeclaredSpelling.{is_spelled_name, is_spelled_definition}
+use Rattle.kid_codec.specs.TermSpelling.{is_spelled_term}
+use Rattle.kid_kernel.specs.IsTheory.{IsTheory}
+use Rattle.kid_term.specs.PlainTheory.{PlainTheory}
+use Rattle.kid_theory.specs.Formed.{is_spelled_axiom}
+
+-- its definitions, names, sorts and terms have spellings, but for those of the axioms
+abbrev pub is_spelled_theory : PlainTheory → Bool
+is_spelled_theory t =
+    list_all is_spelled_definition t.signature.definitions && list_all is_spelled_name t.spec.inputs && is_spelled_term t.spec.condition
+    && is_spelled_name (t.spec.output, t.spec.sort) && is_spelled_term t.spec.relation
+
+-- it is a theory, and all that it holds has a spelling
+pub record IsRead (t : PlainTheory) : Type 0 where
+  pub is_theory : IsTheory t
+  pub spelled : is_spelled_theory t ≡ true
+  pub axioms_spelled : list_all is_spelled_axiom t.axioms ≡ true

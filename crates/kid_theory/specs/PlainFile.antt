@@ -1,0 +1,35 @@
+-- A theory file as plain data, and the theory that is made of it.
+use Rattle.std.specs.Prelude.{ℕ, List, [], ◌∷◌, ◌++◌, Option}
+use Rattle.kid_value.specs.PlainSort.{PlainSort}
+use Rattle.kid_term.specs.PlainTerm.{PlainTerm}
+use Rattle.kid_term.specs.Names.{Names, PlainDef}
+use Rattle.kid_term.specs.PlainLaw.{PlainLaw}
+use Rattle.kid_term.specs.PlainTheory.{PlainTheory}
+
+-- the title, definitions and inputs, the input condition, the laws in their order, each of which is an axiom, the output with its sort, the relation, and how many answers are wanted, where not all are
+pub record PlainFile : Type 0 where
+  pub title : List ℕ
+  pub definitions : List PlainDef
+  pub inputs : Names
+  pub condition : PlainTerm
+  pub laws : List PlainLaw
+  pub output : List ℕ
+  pub sort : PlainSort
+  pub relation : PlainTerm
+  pub first : Option ℕ
+
+-- the output as a name with its sort
+abbrev pub output_of : PlainFile → List ℕ × PlainSort
+output_of f = (f.output, f.sort)
+
+-- the names that the relation sees
+abbrev pub relation_names : PlainFile → Names
+relation_names f = f.inputs ++ output_of f ∷ []
+
+abbrev pub theory_of : PlainFile → PlainTheory
+theory_of f = record {
+  signature = record { definitions = f.definitions; inputs = f.inputs };
+  laws = [];
+  axioms = f.laws;
+  spec = record { inputs = f.inputs; condition = f.condition; output = f.output; sort = f.sort; relation = f.relation; first = f.first };
+}
