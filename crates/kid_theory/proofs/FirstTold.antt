@@ -1,5 +1,5 @@
 -- What may follow the relation of a theory file that is read.
-use Rattle.std.proofs.Common.{◌≡◌, ℕ, suc, ◌+◌, ◌≤◌, Bool, true, List, Option, Some, None, Ok, refl, ap, ◌∙◌, arith}
+use Rattle.std.proofs.Common.{◌≡◌, ℕ, suc, ◌+◌, ◌≤◌, true, List, Option, Some, None, Ok, refl, ap, arith}
 use Rattle.kid_sexp.specs.Plain.{Plain, Plains, none, more, forest_len}
 use Rattle.kid_value.specs.PlainSort.{PlainSort}
 use Rattle.kid_term.specs.PlainSpec.{is_wanted}

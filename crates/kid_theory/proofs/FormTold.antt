@@ -1,6 +1,6 @@
 -- What a form of a theory tells that was not refused: it is the tree of what it holds, which has a spelling and keeps the rules.
-use Rattle.std.proofs.Common.{◌≡◌, ℕ, ℤ, Bool, true, false, List, [], length, Some, Ok, refl, sym, ap, ◌∙◌, subst}
-use Rattle.std.specs.Prelude.{pos, negsuc, nat_le, nat_lt, not, ◌&&◌, codes}
+use Rattle.std.proofs.Common.{◌≡◌, ℕ, ℤ, true, List, [], length, Some, Ok, refl, sym, ap, ◌∙◌, subst}
+use Rattle.std.specs.Prelude.{pos, negsuc, nat_lt, not, ◌&&◌, codes}
 use Rattle.kid_sexp.specs.Plain.{Plain, Plains, atom, list, one}
 use Rattle.kid_value.specs.PlainSort.{PlainSort, bools}
 use Rattle.kid_value.specs.SortLimits.{is_allowed}

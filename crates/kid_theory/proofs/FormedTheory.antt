@@ -5,7 +5,6 @@ use Rattle.std.specs.List.{list_all}
 use Rattle.std.proofs.lemmas.List.{map-append}
 use Rattle.std.proofs.lemmas.List.Folds.{list_all-append}
 use Rattle.kid_sexp.specs.Plain.{Plains}
-use Rattle.kid_value.specs.PlainSort.{PlainSort}
 use Rattle.kid_value.proofs.SortLemmas.{and_parts, and_both}
 use Rattle.kid_term.specs.CallDepth.{body_depth, depths_of}
 use Rattle.kid_term.specs.Fitting.{AreSound}
@@ -14,7 +13,6 @@ use Rattle.kid_term.specs.Sorting.{sort_of}
 use Rattle.kid_sorting.specs.Declaring.{is_sorted_definition, is_shallow}
 use Rattle.kid_sorting.proofs.SoundDefinitions.{names-allowed, sound-more}
 use Rattle.kid_codec.specs.DeclaredSpelling.{definitions_before, is_spelled_name, is_spelled_definition}
-use Rattle.kid_codec.specs.Name.{is_name}
 use Rattle.kid_codec.specs.TermSpelling.{is_spelled_term}
 use Rattle.kid_kernel.specs.Differ.{words_of, differ, are_apart}
 use Rattle.kid_kernel.specs.IsTheory.{are_shallow, have_own_parameters, has_own_variables, IsTheory}

@@ -1,6 +1,6 @@
 -- Bytes that spell a theory file which keeps the rules are read as that file.
 use Rattle.std.proofs.Common.{◌≡◌, ℕ, suc, ◌+◌, ◌≤◌, Bool, true, List, [], ◌∷◌, ◌++◌, length, Option, Some, None, Ok, refl, sym, ap, ◌∙◌, subst, arith, append_assoc, append-nil}
-use Rattle.std.specs.Prelude.{◌&&◌, nat_le, nat_lt, if◌then◌else◌, codes}
+use Rattle.std.specs.Prelude.{nat_le, nat_lt, if◌then◌else◌, codes}
 use Rattle.std.specs.List.{list_all}
 use Rattle.std.proofs.lemmas.Bool.Decides.{nat_tests}
 use Rattle.std.proofs.lemmas.List.{length-append, map-append}
@@ -16,11 +16,11 @@ use Rattle.kid_term.specs.PlainTerm.{PlainTerm}
 use Rattle.kid_sorting.specs.Declaring.{are_allowed}
 use Rattle.kid_codec.specs.DeclaredSpelling.{named_spelling, definition_spelling, definitions_before, inputs_before, is_spelled_name, is_spelled_definition}
 use Rattle.kid_codec.specs.SortSpelling.{headed}
-use Rattle.kid_codec.specs.TermSpelling.{term_spelling, is_spelled_term}
+use Rattle.kid_codec.specs.TermSpelling.{term_spelling}
 use Rattle.kid_term.specs.PlainLaw.{PlainLaw}
 use Rattle.kid_kernel.specs.Differ.{words_of}
 use Rattle.kid_kernel.specs.SortedLaw.{is_sorted_law}
-use Rattle.kid_kernel.specs.Wordless.{is_wordless, is_wordless_definition, is_wordless_law}
+use Rattle.kid_kernel.specs.Wordless.{is_wordless_definition, is_wordless_law}
 use Rattle.kid_theory.specs.Formed.{names_of, is_formed_definition, are_formed_definitions, are_named_before, names_before_axioms, IsFormed, IsFileOf, is_spelled_axiom}
 use Rattle.kid_theory.specs.Forms.{title_form, definition_form, input_form, output_form, condition_form, first_form, is_named_law, axiom_form}
 use Rattle.kid_theory.specs.Judged.{Judged}

@@ -1,6 +1,6 @@
 -- A theory file that is read is spelled by the forms, and keeps the rules.
 use Rattle.std.proofs.Common.{◌≡◌, ℕ, suc, ◌+◌, ◌≤◌, Bool, true, false, if◌then◌else◌, List, [], ◌∷◌, ◌++◌, Result, Ok, refl, sym, ap, ◌∙◌, subst, arith, append_assoc, append-nil}
-use Rattle.std.specs.Prelude.{◌&&◌, nat_le, length, codes}
+use Rattle.std.specs.Prelude.{nat_le, length, codes}
 use Rattle.std.specs.List.{list_all}
 use Rattle.std.proofs.lemmas.List.{map-append}
 use Rattle.kid_sexp.specs.Plain.{Plain, Plains, atom, none, more, one, forest_len}
@@ -16,7 +16,7 @@ use Rattle.kid_term.specs.PlainSpec.{is_wanted}
 use Rattle.kid_term.specs.PlainTerm.{PlainTerm}
 use Rattle.kid_term.specs.Sorting.{sort_of}
 use Rattle.kid_sorting.specs.Declaring.{are_allowed, is_truth}
-use Rattle.kid_codec.specs.DeclaredSpelling.{named_spelling, definition_spelling, definitions_before, inputs_before, is_spelled_name, is_spelled_definition}
+use Rattle.kid_codec.specs.DeclaredSpelling.{named_spelling, definitions_before, inputs_before, is_spelled_name, is_spelled_definition}
 use Rattle.kid_codec.specs.Name.{is_name}
 use Rattle.kid_codec.specs.SortSpelling.{headed}
 use Rattle.kid_codec.specs.TermSpelling.{term_spelling, is_spelled_term}
@@ -29,7 +29,7 @@ use Rattle.kid_theory.specs.Forms.{begins, title_form, definition_form, input_fo
 use Rattle.kid_theory.specs.Judged.{Judged}
 use Rattle.kid_theory.specs.PlainFile.{PlainFile, output_of, relation_names}
 use Rattle.kid_theory.specs.Reading.{Read, ◌>>=◌, refused, at, Front, with_axiom, file_with, front_of, after_relation, after_output, after_condition, after_inputs, after_definitions, file_from, from_forest, file_reading}
-use Rattle.kid_theory.specs.Spelling.{axiom_spelling, axioms_before, last_forms, later_forms, from_inputs, file_spelling}
+use Rattle.kid_theory.specs.Spelling.{axioms_before, last_forms, later_forms, from_inputs, file_spelling}
 use Rattle.kid_theory.specs.Taken.{Taken, is_free, are_free}
 use Rattle.kid_theory.specs.declared.fault.TheoryCode.TheVariants as code
 use Rattle.kid_theory.proofs.AxiomTold.{axiom_form_told}

@@ -419,6 +419,13 @@ fn read_file(alloc: Global, bytes: &[u8]) -> Result<TheoryFile, TheoryFault>
     }
 }
 
+fn theory_from(alloc: Global, bytes: &[u8]) -> Result<Theory, TheoryFault>
+    ensures { Reads plain_theory result (theory_reading bytes.now) }
+{
+    let file = read_file(alloc, bytes)?;
+    Ok(theory_of(alloc, file)?)
+}
+
 /// The theory that a file spells. Its forms stand in this order:
 ///
 /// - `(theory NAME)`
@@ -457,6 +464,5 @@ pub fn read_theory(alloc: Global, bytes: &[u8]) -> Result<Theory, TheoryFault>
     ensures theory { IfOk result (λ t. IsRead (plain_theory t)) }
     ensures spelled { IfOk result (λ t. IsSpelledBy bytes.now (plain_theory t)) }
 {
-    let file = read_file(alloc, bytes)?;
-    Ok(theory_of(alloc, file)?)
+    theory_from(alloc, bytes)
 }
