@@ -18,7 +18,7 @@ use Rattle.kid_term.specs.PlainSignature.{PlainSignature}
 use Rattle.kid_codec.proofs.Found.{same_some}
 use Rattle.kid_prog.specs.PlainStmt.{PlainStmt, PlainStmts, stmt_row}
 use Rattle.kid_prog.specs.PlainProgram.{PlainProgram}
-use Rattle.kid_prog.specs.Forms.{is_def, def_form, is_input, input_form, require_form, output_form, is_first, first_form, search_form}
+use Rattle.kid_prog.specs.Forms.{is_def, def_form, is_input, input_form, require_form, output_form, is_first, first_form, known_parameters, main_form, search_form}
 use Rattle.kid_prog.specs.FormAnswers.{CodeFails, Judges}
 use Rattle.kid_prog.specs.StageAnswers.{fault_at, numbered}
 use Rattle.kid_prog.specs.Loading.{Loaded, ◌>>=◌, refused, at, Heading, program_with, at_end, after_main, after_first, with_first, after_output, after_condition, with_input, after_inputs, defined, next_definition, after_definitions, Fails, Loads}
@@ -50,6 +50,15 @@ main-next k m h main trees rest tree r s p e are judged held is =
     ∙ ap (λ j. at j (search_form h.format h.signature h.output (plain tree)) >>= λ search. at_end j (program_with h main search) (plains rest)) e
     ∙ passed (λ q. (q.0, stmt_row q.1)) r (search_form h.format h.signature h.output (plain tree)) m s (λ search. at_end m (program_with h main search) (plains rest)) judged held
     ∙ ap (λ q. at_end m q (plains rest)) (sym is)
+
+pub search-next : (k m : ℕ) (h : Heading) (trees rest : List Tree) (tree : Tree) (r : Result (List PlainStmt) LoadCode) (main : List PlainStmt)
+    → suc k ≡ m → trees ≡ tree ∷ rest → Judges (λ ss. stmt_row ss) r (main_form h.format h.signature h.output.1 (known_parameters h.format h.signature h.output (plains rest)) (plain tree))
+    → numbered m r ≡ Ok main → after_first k h (plains trees) ≡ after_main m h (stmt_row main) (plains rest)
+search-next k m h trees rest tree r main e are judged held =
+    let form = main_form h.format h.signature h.output.1 (known_parameters h.format h.signature h.output (plains rest)) (plain tree) in
+    ap (λ (ts : List Tree). after_first k h (plains ts)) are
+    ∙ ap (λ j. at j form >>= λ ss. after_main j h ss (plains rest)) e
+    ∙ passed (λ ss. stmt_row ss) r form m main (λ ss. after_main m h ss (plains rest)) judged held
 
 pub condition-next : (k m : ℕ) (f : Format) (s : PlainSignature) (condition : PlainTerm) (trees rest : List Tree) (tree : Tree) (r : Result (List ℕ × Sort) LoadCode) (n : List ℕ × Sort)
     → suc k ≡ m → trees ≡ tree ∷ rest → Judges plain_name r (output_form f s (plain tree)) → numbered m r ≡ Ok n
