@@ -1,0 +1,9 @@
+pub mod ExampleProofs
+pub mod HoldLemmas
+pub mod Places
+pub mod RewriteLemmas
+pub mod RuleLemmas
+pub mod SameLemmas
+pub mod ScopeLemmas
+pub mod Truths
+pub mod Unfolded

@@ -1,0 +1,13 @@
+pub mod Cases
+pub mod Definitions
+pub mod Examples
+pub mod Holds
+pub mod Instances
+pub mod Laws
+pub mod Rewriting
+pub mod Same
+pub mod Scope
+pub mod Settling
+pub mod Uncasting
+pub mod Unfolding
+pub mod Using

@@ -1,0 +1,4 @@
+//! Scopes.
+#![tactic(auto)]
+
+pub mod law;
