@@ -1,5 +1,6 @@
 -- Each example by computation.
 use Rattle.std.proofs.Common.{refl}
+use Rattle.kid_scope.specs.RuleExamples.{RuleExamples}
 use Rattle.kid_scope.specs.Examples.{ScopeExamples, RewritingExamples}
 
 pub examples : ScopeExamples
@@ -41,4 +42,36 @@ rewriting_examples = record {
   outside_its_sort = refl;
   within_its_sort = refl;
   limit_before_sort_of_a_part = refl;
+}
+
+pub rule_examples : RuleExamples
+rule_examples = record {
+  unfolded = refl;
+  captured = refl;
+  not_captured = refl;
+  no_call = refl;
+  two_arguments = refl;
+  no_way_back = refl;
+  needless_argument = refl;
+  folded = refl;
+  other_body = refl;
+  no_definition = refl;
+  would_be_bound = refl;
+  computed = refl;
+  free_name = refl;
+  held = refl;
+  failing = refl;
+  no_truth = refl;
+  fact = refl;
+  fact_back = refl;
+  forth = refl;
+  back = refl;
+  other_side = refl;
+  no_fact = refl;
+  beyond = refl;
+  interval = refl;
+  bound = refl;
+  other_items = refl;
+  within = refl;
+  not_within = refl;
 }

@@ -1,5 +1,7 @@
 pub mod ExampleProofs
+pub mod Facts
 pub mod HoldLemmas
+pub mod LawLemmas
 pub mod Places
 pub mod RewriteLemmas
 pub mod RuleLemmas

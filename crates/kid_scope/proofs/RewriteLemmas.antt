@@ -19,13 +19,13 @@ use Rattle.kid_term.specs.PlainTheory.{PlainTheory}
 use Rattle.kid_scope.specs.Cases.{IsSoundTheory}
 use Rattle.kid_scope.specs.Scope.{PlainScope, scope_at}
 use Rattle.kid_scope.specs.Holds.{holds}
-use Rattle.kid_scope.specs.Rewriting.{Instance, all_within, unless, placed, unmet, unsorted, misfitting, licensed, settled, made}
+use Rattle.kid_scope.specs.Rewriting.{PlainInstance, all_within, unless, placed, unmet, unsorted, misfitting, licensed, settled, made}
 use Rattle.kid_scope.specs.Laws.{RewritingsKeepValues}
 use Rattle.kid_scope.proofs.HoldLemmas.{holds_true}
 use Rattle.kid_scope.proofs.Places.{put_sorted, part_sorted}
 use Rattle.kid_scope.proofs.ScopeLemmas.{Stands, same_at}
 
-abbrev ok_instance : Instance → Result Instance Why
+abbrev ok_instance : PlainInstance → Result PlainInstance Why
 ok_instance n = Ok n
 
 pub staged : {A B : Type 0} (r : Result A Why) (f : A → Result B Why) (y : B) → (r >>= f) ≡ Ok y → (x : A) × (r ≡ Ok x) × (f x ≡ Ok y)

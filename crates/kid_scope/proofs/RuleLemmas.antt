@@ -39,14 +39,14 @@ use Rattle.kid_term.specs.Definition.{definition_of}
 use Rattle.kid_scope.specs.Scope.{PlainScope, negated}
 use Rattle.kid_term.specs.PlainTheory.{PlainTheory}
 use Rattle.kid_scope.specs.Same.{same_term}
-use Rattle.kid_scope.specs.Rewriting.{Instance, Rule, KeepsValue, lies_within}
+use Rattle.kid_scope.specs.Rewriting.{PlainInstance, Rule, KeepsValue, lies_within}
 use Rattle.kid_scope.specs.Instances.{no_match, just, provided, forth_alone}
 use Rattle.kid_scope.specs.Unfolding.{paired, opened, opened_call, opened_in, unfold_call, closed_from, closed_call, fold_forth, fold_call}
 use Rattle.kid_scope.specs.Settling as settling
 use Rattle.kid_scope.specs.Settling.{computed, compute, is_a_truth, settled_as, fails}
 use Rattle.kid_scope.specs.Using.{nth, fact_at, sides_of, exchanged, used_as, used, use_alone, use_fact}
 use Rattle.kid_scope.specs.Uncasting.{at_most, length_of, uncast_from, uncast_in, uncast}
-use Rattle.kid_scope.specs.Laws.{PlaceRulesKeepValues}
+use Rattle.kid_scope.specs.Laws.{PlaceRulesKeepValues, TermwiseRulesKeepValues}
 use Rattle.kid_scope.proofs.RewriteLemmas.{staged}
 use Rattle.kid_scope.proofs.SameLemmas.{same_term-true}
 use Rattle.kid_scope.proofs.Truths.{true_bool}
@@ -54,20 +54,20 @@ use Rattle.kid_scope.proofs.Unfolded.{row-terms, opened-value}
 
 -- ---- instances
 
-abbrev ok : Instance → Result Instance Why
+abbrev ok : PlainInstance → Result PlainInstance Why
 ok n = Ok n
 
 -- the new term of an instance has the value of the old one, where its conditions are true
-abbrev Keeps : Calls → Env → PlainTerm → Instance → Type 0
+abbrev Keeps : Calls → Env → PlainTerm → PlainInstance → Type 0
 Keeps calls env old n = AllTrue calls env n.conditions → eval calls env n.term ≡ eval calls env old
 
-just-keeps : (calls : Calls) (env : Env) (new old : PlainTerm) (n : Instance) → just new ≡ Ok n → eval calls env new ≡ eval calls env old → Keeps calls env old n
+just-keeps : (calls : Calls) (env : Env) (new old : PlainTerm) (n : PlainInstance) → just new ≡ Ok n → eval calls env new ≡ eval calls env old → Keeps calls env old n
 just-keeps calls env new old n p e = let q : record { conditions = []; term = new; within = [] } ≡ n = cc in subst (Keeps calls env old) q (λ a. e)
 
-provided-keeps : (calls : Calls) (env : Env) (cs : List PlainTerm) (new old : PlainTerm) (n : Instance) → provided cs new ≡ Ok n → (AllTrue calls env cs → eval calls env new ≡ eval calls env old) → Keeps calls env old n
+provided-keeps : (calls : Calls) (env : Env) (cs : List PlainTerm) (new old : PlainTerm) (n : PlainInstance) → provided cs new ≡ Ok n → (AllTrue calls env cs → eval calls env new ≡ eval calls env old) → Keeps calls env old n
 provided-keeps calls env cs new old n p e = let q : record { conditions = cs; term = new; within = [] } ≡ n = cc in subst (Keeps calls env old) q e
 
-if-ok : (c : Bool) (r : Result Instance Why) (n : Instance) → cond c r no_match ≡ Ok n → (c ≡ true) × (r ≡ Ok n)
+if-ok : (c : Bool) (r : Result PlainInstance Why) (n : PlainInstance) → cond c r no_match ≡ Ok n → (c ≡ true) × (r ≡ Ok n)
 if-ok true r n p = (refl, p)
 if-ok false r n p = cc
 
@@ -105,7 +105,7 @@ module _ (t : PlainTheory) (sound : IsSoundTheory t) (env : Env) where
       let o = opened-ok d ts body q in
       ap (eval calls env) (sym o.is) ∙ opened-value t.signature.definitions env f d ts sound.definitions sound.distinct p o.counted o.free
 
-  opened_in-keeps : (old : PlainTerm) (n : Instance) → opened_in t.signature.definitions old ≡ Ok n → Keeps calls env old n
+  opened_in-keeps : (old : PlainTerm) (n : PlainInstance) → opened_in t.signature.definitions old ≡ Ok n → Keeps calls env old n
   opened_in-keeps (app (call f) ts) n p = by (definition_of f t.signature.definitions) refl p
     where
       by : (o : Option PlainDef) → definition_of f t.signature.definitions ≡ o → opened_call o (terms ts) ≡ ok n → Keeps calls env (app (call f) ts) n
@@ -115,7 +115,7 @@ module _ (t : PlainTheory) (sound : IsSoundTheory t) (env : Env) where
           just-keeps calls env r.0 (app (call f) ts) n r.2 (body-value f d (terms ts) r.0 e r.1 ∙ ap (λ z. eval calls env (app (call f) z)) (row-terms ts))
   opened_in-keeps old n p = cc
 
-  closed-keeps : (f : List ℕ) (args : List PlainTerm) (old : PlainTerm) (n : Instance) → closed_call (definition_of f t.signature.definitions) f args old ≡ Ok n → Keeps calls env old n
+  closed-keeps : (f : List ℕ) (args : List PlainTerm) (old : PlainTerm) (n : PlainInstance) → closed_call (definition_of f t.signature.definitions) f args old ≡ Ok n → Keeps calls env old n
   closed-keeps f args old n p = by (definition_of f t.signature.definitions) refl p
     where
       with_body : (d : PlainDef) → definition_of f t.signature.definitions ≡ Some d → (r : Result PlainTerm Why) → opened d args ≡ r → closed_from r (app (call f) (term_row args)) old ≡ ok n → Keeps calls env old n
@@ -128,13 +128,13 @@ module _ (t : PlainTheory) (sound : IsSoundTheory t) (env : Env) where
       by None e q = cc
       by (Some d) e q = with_body d e (opened d args) refl q
 
-  fold-keeps : (f : List ℕ) (back : Bool) (args : List PlainTerm) (old : PlainTerm) (n : Instance) → fold_forth f back args t.signature.definitions old ≡ Ok n → Keeps calls env old n
+  fold-keeps : (f : List ℕ) (back : Bool) (args : List PlainTerm) (old : PlainTerm) (n : PlainInstance) → fold_forth f back args t.signature.definitions old ≡ Ok n → Keeps calls env old n
   fold-keeps f false args old n p = closed-keeps f args old n p
   fold-keeps f true args old n p = cc
 
 -- ---- compute, holds, fails
 
-computed-keeps : (t : PlainTheory) (sc : PlainScope) (env : Env) (old : PlainTerm) (s : PlainSort) (n : Instance) → IsSoundTheory t → IsScope t sc → Meets t sc env
+computed-keeps : (t : PlainTheory) (sc : PlainScope) (env : Env) (old : PlainTerm) (s : PlainSort) (n : PlainInstance) → IsSoundTheory t → IsScope t sc → Meets t sc env
     → sort_of t.signature.definitions sc.names old ≡ Ok s → computed t.signature.definitions old ≡ Ok n → Keeps (calls_of t.signature.definitions) env old n
 computed-keeps t sc env old s n sound scope met p q =
     let calls = calls_of t.signature.definitions in
@@ -164,12 +164,12 @@ not-true (seq vs) p = cc
 not-true (map_of m) p = cc
 not-true (value.tag n) p = cc
 
-holds-keeps : (calls : Calls) (env : Env) (old : PlainTerm) (r : Sorted) (n : Instance) → settled_as true old r ≡ Ok n → Keeps calls env old n
+holds-keeps : (calls : Calls) (env : Env) (old : PlainTerm) (r : Sorted) (n : PlainInstance) → settled_as true old r ≡ Ok n → Keeps calls env old n
 holds-keeps calls env old r n q =
     let k = if-ok (is_a_truth r) (provided (old ∷ []) (truth true)) n q in
     provided-keeps calls env (old ∷ []) (truth true) old n k.1 (λ a. sym (true_bool (eval calls env old) a.0))
 
-fails-keeps : (calls : Calls) (env : Env) (old : PlainTerm) (r : Sorted) (n : Instance) → settled_as false (negated old) r ≡ Ok n → Keeps calls env old n
+fails-keeps : (calls : Calls) (env : Env) (old : PlainTerm) (r : Sorted) (n : PlainInstance) → settled_as false (negated old) r ≡ Ok n → Keeps calls env old n
 fails-keeps calls env old r n q =
     let k = if-ok (is_a_truth r) (provided (negated old ∷ []) (truth false)) n q in
     provided-keeps calls env (negated old ∷ []) (truth false) old n k.1 (λ a. sym (not-true (eval calls env old) a.0))
@@ -198,11 +198,11 @@ sides-ok (app (op (Logic Eq)) (term x (term y no_term))) l r p =
     let e : x ≡ l = ap (first_or x) p in let f : y ≡ r = ap (second_or y) p in λ i. app (op (Logic Eq)) (term (e i) (term (f i) no_term))
 sides-ok t l r p = cc
 
-exchanged-keeps : (calls : Calls) (env : Env) (from to old : PlainTerm) (n : Instance) → exchanged from to old ≡ Ok n → eval calls env to ≡ eval calls env from → Keeps calls env old n
+exchanged-keeps : (calls : Calls) (env : Env) (from to old : PlainTerm) (n : PlainInstance) → exchanged from to old ≡ Ok n → eval calls env to ≡ eval calls env from → Keeps calls env old n
 exchanged-keeps calls env from to old n q e =
     let k = if-ok (same_term from old) (just to) n q in just-keeps calls env to old n k.1 (e ∙ ap (eval calls env) (same_term-true from old k.0))
 
-used-keeps : (calls : Calls) (env : Env) (back : Bool) (fact old : PlainTerm) (n : Instance) → IsTrueAt calls env fact → used_as back fact (sides_of fact) old ≡ Ok n → Keeps calls env old n
+used-keeps : (calls : Calls) (env : Env) (back : Bool) (fact old : PlainTerm) (n : PlainInstance) → IsTrueAt calls env fact → used_as back fact (sides_of fact) old ≡ Ok n → Keeps calls env old n
 used-keeps calls env back fact old n h p = by back (sides_of fact) refl p
   where
     equal : (s : PlainTerm × PlainTerm) → sides_of fact ≡ Some s → eval calls env s.0 ≡ eval calls env s.1
@@ -216,7 +216,7 @@ used-keeps calls env back fact old n h p = by back (sides_of fact) refl p
     by false None e q = exchanged-keeps calls env fact (truth true) old n q (sym (true_bool (eval calls env fact) h))
     by true None e q = cc
 
-use-keeps : (calls : Calls) (env : Env) (k : ℕ) (back : Bool) (args facts : List PlainTerm) (old : PlainTerm) (n : Instance) → AllTrue calls env facts → use_alone k back args facts old ≡ Ok n → Keeps calls env old n
+use-keeps : (calls : Calls) (env : Env) (k : ℕ) (back : Bool) (args facts : List PlainTerm) (old : PlainTerm) (n : PlainInstance) → AllTrue calls env facts → use_alone k back args facts old ≡ Ok n → Keeps calls env old n
 use-keeps calls env k back [] facts old n a p = by (fact_at facts k) refl p
   where
     by : (o : Option PlainTerm) → fact_at facts k ≡ o → used back o old ≡ ok n → Keeps calls env old n
@@ -257,13 +257,13 @@ module _ (calls : Calls) (env : Env) where
   abbrev casted : PlainSort → PlainTerm → PlainTerm
   casted a u = app (cast a) (term u no_term)
 
-  within-keeps : (a : PlainSort) (u : PlainTerm) (r : Sorted) (n : Instance) → ((s : PlainSort) → r ≡ Ok s → has_sort s (eval calls env u) ≡ true) → cond (lies_within a r) (just u) no_match ≡ Ok n → Keeps calls env (casted a u) n
+  within-keeps : (a : PlainSort) (u : PlainTerm) (r : Sorted) (n : PlainInstance) → ((s : PlainSort) → r ≡ Ok s → has_sort s (eval calls env u) ≡ true) → cond (lies_within a r) (just u) no_match ≡ Ok n → Keeps calls env (casted a u) n
   within-keeps a u (Ok s) n h p =
       let k = if-ok (is_subsort s a) (just u) n p in
       just-keeps calls env u (casted a u) n k.1 (cast-same a (eval calls env u) (has_sort-subsort s a (eval calls env u) k.0 (h s refl)))
   within-keeps a u (Err f) n h p = cc
 
-  uncast-keeps : (a : PlainSort) (u : PlainTerm) (r : Sorted) (n : Instance) → ((s : PlainSort) → r ≡ Ok s → has_sort s (eval calls env u) ≡ true) → uncast_from a u r ≡ Ok n → Keeps calls env (casted a u) n
+  uncast-keeps : (a : PlainSort) (u : PlainTerm) (r : Sorted) (n : PlainInstance) → ((s : PlainSort) → r ≡ Ok s → has_sort s (eval calls env u) ≡ true) → uncast_from a u r ≡ Ok n → Keeps calls env (casted a u) n
   uncast-keeps (ints lo hi) u r n h p =
       provided-keeps calls env (at_most (number lo) u ∷ at_most u (number hi) ∷ []) u (casted (ints lo hi) u) n p
       (λ a. cast-same (ints lo hi) (eval calls env u) (in_interval lo hi (eval calls env u) a.0 a.1.0))
@@ -286,7 +286,7 @@ module _ (calls : Calls) (env : Env) where
   uncast-keeps (maps c d) u r n h p = within-keeps (maps c d) u r n h p
   uncast-keeps (enums ns) u r n h p = within-keeps (enums ns) u r n h p
 
-uncast_in-keeps : (t : PlainTheory) (sc : PlainScope) (env : Env) (old : PlainTerm) (n : Instance) → IsSoundTheory t → IsScope t sc → Meets t sc env
+uncast_in-keeps : (t : PlainTheory) (sc : PlainScope) (env : Env) (old : PlainTerm) (n : PlainInstance) → IsSoundTheory t → IsScope t sc → Meets t sc env
     → uncast_in t.signature.definitions sc.names old ≡ Ok n → Keeps (calls_of t.signature.definitions) env old n
 uncast_in-keeps t sc env (app (cast a) (term u no_term)) n sound scope met p =
     uncast-keeps (calls_of t.signature.definitions) env a u (sort_of t.signature.definitions sc.names u) n
@@ -311,3 +311,7 @@ place_rules_keep = record {
   uncasts = λ back args.
       forth-keeps back args (λ t sc old. uncast_in t.signature.definitions sc.names old) (λ t sc old new s s' env sound scope met p q q' w a. uncast_in-keeps t sc env old new sound scope met p a);
 }
+
+pub termwise_keep : TermwiseRulesKeepValues
+termwise_keep f keeps t sc old new s s' env sound scope met p q q' w a =
+    keeps old new t.signature.definitions sc.names env s s' p sound.definitions scope.allowed met.case.fits q q' a

@@ -188,7 +188,7 @@ all-open (d ∷ ds) known calls o sound new =
 -- ---- a call and its body
 
 -- the parameters have the arguments' values
-paired-values : (calls : Calls) (env : Env) (ps : Names) (ts : List PlainTerm) → values_of calls env (paired ps ts) ≡ bound ps (evals calls env (term_row ts))
+pub paired-values : (calls : Calls) (env : Env) (ps : Names) (ts : List PlainTerm) → values_of calls env (paired ps ts) ≡ bound ps (evals calls env (term_row ts))
 paired-values calls env [] ts = refl
 paired-values calls env (p ∷ ps) [] = refl
 paired-values calls env (p ∷ ps) (t ∷ ts) = ap (λ z. (p.0, eval calls env t) ∷ z) (paired-values calls env ps ts)
@@ -204,7 +204,7 @@ bound-front (p ∷ ps) (v ∷ vs) env y n m = by (same_name y p.0) m (bound-fron
     by true q rest = refl
     by false q rest = rest q
 
-evals-length : (calls : Calls) (env : Env) (ts : List PlainTerm) → length (evals calls env (term_row ts)) ≡ length ts
+pub evals-length : (calls : Calls) (env : Env) (ts : List PlainTerm) → length (evals calls env (term_row ts)) ≡ length ts
 evals-length calls env [] = refl
 evals-length calls env (t ∷ ts) = ap suc (evals-length calls env ts)
 
@@ -212,7 +212,7 @@ pub row-terms : (ts : PlainTerms) → term_row (terms ts) ≡ ts
 row-terms no_term = refl
 row-terms (term t ts) = ap (term t) (row-terms ts)
 
-as_many : (m n : ℕ) → nat_eq m n ≡ true → m ≡ n
+pub as_many : (m n : ℕ) → nat_eq m n ≡ true → m ≡ n
 as_many m n p = grind (arith, nat_tests)
 
 pub opened-value : (defs : List PlainDef) (env : Env) (f : List ℕ) (d : PlainDef) (ts : List PlainTerm) → AreSound defs → AreDistinct defs → definition_of f defs ≡ Some d

@@ -1,5 +1,5 @@
 -- What holds of all scopes and rewritings.
-use Rattle.std.specs.Prelude.{◌≡◌, ℕ, Bool, true, List, Ok}
+use Rattle.std.specs.Prelude.{◌≡◌, ℕ, Bool, true, List, Result, Ok}
 use Rattle.kid_value.specs.PlainSort.{PlainSort}
 use Rattle.kid_term.specs.PlainTerm.{PlainTerm}
 use Rattle.kid_term.specs.Names.{PlainDef}
@@ -16,7 +16,9 @@ use Rattle.kid_scope.specs.Settling.{compute}
 use Rattle.kid_scope.specs.Uncasting.{uncast}
 use Rattle.kid_scope.specs.Unfolding.{unfold_call, fold_call}
 use Rattle.kid_scope.specs.Using.{use_fact}
-use Rattle.kid_scope.specs.Rewriting.{Rule, KeepsValue, rewritten}
+use Rattle.kid_term.specs.declared.why.Why.{Why}
+use Rattle.kid_scope.specs.Instances.{termwise, KeepsTerms}
+use Rattle.kid_scope.specs.Rewriting.{PlainInstance, Rule, KeepsValue, rewritten}
 
 -- a condition that holds is true wherever the names have values of their sorts and what may be used is true
 abbrev pub HeldAreTrue : Type 0
@@ -40,3 +42,7 @@ pub record PlaceRulesKeepValues : Type 0 where
   pub fails : (back : Bool) (args : List PlainTerm) → KeepsValue (settling.fails back args)
   pub uses : (k : ℕ) (back : Bool) (args : List PlainTerm) → KeepsValue (use_fact k back args)
   pub uncasts : (back : Bool) (args : List PlainTerm) → KeepsValue (uncast back args)
+
+-- a rule that looks at the term alone, and keeps the value wherever both terms have a sort, keeps it in each scope
+abbrev pub TermwiseRulesKeepValues : Type 0
+TermwiseRulesKeepValues = (f : PlainTerm → Result PlainInstance Why) → KeepsTerms f → KeepsValue (termwise f)

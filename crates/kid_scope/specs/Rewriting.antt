@@ -19,14 +19,14 @@ use Rattle.kid_scope.specs.Scope.{PlainScope, scope_at}
 use Rattle.kid_scope.specs.Holds.{holds}
 
 -- an instance of a rule: the conditions that must hold, the new term, and terms with the sorts that theirs must lie within
-pub record Instance : Type 0 where
+pub record PlainInstance : Type 0 where
   pub conditions : List PlainTerm
   pub term : PlainTerm
   pub within : List (PlainTerm × PlainSort)
 
 -- what a rule makes of a term in a scope, or why there is no instance
 abbrev pub Rule : Type 0
-Rule = PlainTheory → PlainScope → PlainTerm → Result Instance Why
+Rule = PlainTheory → PlainScope → PlainTerm → Result PlainInstance Why
 
 abbrev pub lies_within : PlainSort → Sorted → Bool
 lies_within s (Ok a) = is_subsort a s
@@ -40,7 +40,7 @@ module _ (defs : List PlainDef) (names : Names) where
 -- wherever both terms have a sort, the terms lie within their sorts and the conditions are true, the new term has the value of the old one
 abbrev pub KeepsValue : Rule → Type 0
 KeepsValue rule =
-    (t : PlainTheory) (sc : PlainScope) (old : PlainTerm) (new : Instance) (s s' : PlainSort) (env : Env) → IsSoundTheory t → IsScope t sc → Meets t sc env
+    (t : PlainTheory) (sc : PlainScope) (old : PlainTerm) (new : PlainInstance) (s s' : PlainSort) (env : Env) → IsSoundTheory t → IsScope t sc → Meets t sc env
     → rule t sc old ≡ Ok new → sort_of t.signature.definitions sc.names old ≡ Ok s → sort_of t.signature.definitions sc.names new.term ≡ Ok s'
     → all_within t.signature.definitions sc.names new.within ≡ true → AllTrue (calls_of t.signature.definitions) env new.conditions
     → eval (calls_of t.signature.definitions) env new.term ≡ eval (calls_of t.signature.definitions) env old
@@ -74,16 +74,16 @@ misfitting true = None
 misfitting false = Some IllSorted
 
 -- the instance, if its conditions hold
-abbrev pub licensed : List PlainDef → PlainScope → Instance → Result Instance Why
+abbrev pub licensed : List PlainDef → PlainScope → PlainInstance → Result PlainInstance Why
 licensed defs sc new = unless (unmet (holds defs sc) 1 new.conditions) new
 
 -- the whole new term, if it is sorted and the instance's terms lie within their sorts
-abbrev pub settled : List PlainDef → PlainScope → Names → Instance → PlainTerm → Result PlainTerm Why
+abbrev pub settled : List PlainDef → PlainScope → Names → PlainInstance → PlainTerm → Result PlainTerm Why
 settled defs sc names new whole =
     unless (unsorted (sort_of defs names whole)) whole >>= λ sorted. unless (misfitting (all_within defs sc.names new.within)) sorted
 
 -- what the rule makes of the subterm at the path
-abbrev pub made : Rule → PlainTheory → PlainScope → PlainTerm → List ℕ → Result Instance Why
+abbrev pub made : Rule → PlainTheory → PlainScope → PlainTerm → List ℕ → Result PlainInstance Why
 made rule t sc whole path =
     placed (subterm whole path) >>= λ old. rule t (scope_at (latest_first t.signature.definitions) whole path sc) old >>= λ new.
     licensed t.signature.definitions (scope_at (latest_first t.signature.definitions) whole path sc) new

@@ -10,11 +10,11 @@ use Rattle.kid_term.specs.Closed.{is_closed}
 use Rattle.kid_term.specs.Quote.{quote}
 use Rattle.kid_term.specs.declared.why.Why.{Why}
 use Rattle.kid_scope.specs.Scope.{PlainScope, negated}
-use Rattle.kid_scope.specs.Rewriting.{Instance, Rule}
+use Rattle.kid_scope.specs.Rewriting.{PlainInstance, Rule}
 use Rattle.kid_scope.specs.Instances.{no_match, just, provided, forth_alone}
 
 -- a term without a free name becomes the term of its value
-abbrev pub computed : List PlainDef → PlainTerm → Result Instance Why
+abbrev pub computed : List PlainDef → PlainTerm → Result PlainInstance Why
 computed defs old = cond (is_closed old) (just (quote (eval (calls_of defs) [] old))) no_match
 
 abbrev pub compute : Bool → List PlainTerm → Rule
@@ -25,7 +25,7 @@ is_a_truth (Ok bools) = true
 is_a_truth r = false
 
 -- a truth value becomes true if it holds, and false if its negation does
-abbrev pub settled_as : Bool → PlainTerm → Sorted → Result Instance Why
+abbrev pub settled_as : Bool → PlainTerm → Sorted → Result PlainInstance Why
 settled_as b c r = cond (is_a_truth r) (provided (c ∷ []) (truth b)) no_match
 
 abbrev pub holds : Bool → List PlainTerm → Rule

@@ -8,7 +8,7 @@ use Rattle.kid_term.specs.declared.why.Why.{Why}
 use Rattle.kid_term.specs.declared.why.Why.TheVariants.{UnknownLaw, NoMatch, Capture}
 use Rattle.kid_term.specs.Definition.{definition_of}
 use Rattle.kid_scope.specs.Same.{same_term}
-use Rattle.kid_scope.specs.Rewriting.{Instance, Rule}
+use Rattle.kid_scope.specs.Rewriting.{PlainInstance, Rule}
 use Rattle.kid_scope.specs.Instances.{no_match, just, forth_alone}
 
 -- each parameter with its argument
@@ -22,12 +22,12 @@ abbrev pub opened : PlainDef → List PlainTerm → Result PlainTerm Why
 opened d ts =
     cond (nat_eq (length ts) (length d.parameters)) (cond (captures_any (paired d.parameters ts) d.body) (Err Capture) (Ok (substituted (paired d.parameters ts) d.body))) (Err NoMatch)
 
-abbrev pub opened_call : Option PlainDef → List PlainTerm → Result Instance Why
+abbrev pub opened_call : Option PlainDef → List PlainTerm → Result PlainInstance Why
 opened_call None ts = no_match
 opened_call (Some d) ts = opened d ts >>= λ body. just body
 
 -- a call becomes the body of its definition
-abbrev pub opened_in : List PlainDef → PlainTerm → Result Instance Why
+abbrev pub opened_in : List PlainDef → PlainTerm → Result PlainInstance Why
 opened_in defs (app (call f) ts) = opened_call (definition_of f defs) (terms ts)
 opened_in defs t = no_match
 
@@ -35,15 +35,15 @@ abbrev pub unfold_call : Bool → List PlainTerm → Rule
 unfold_call back args = forth_alone back args (λ t sc old. opened_in t.signature.definitions old)
 
 -- what is the body of a definition with these arguments becomes the call
-abbrev pub closed_from : Result PlainTerm Why → PlainTerm → PlainTerm → Result Instance Why
+abbrev pub closed_from : Result PlainTerm Why → PlainTerm → PlainTerm → Result PlainInstance Why
 closed_from (Ok body) new old = cond (same_term body old) (just new) no_match
 closed_from (Err why) new old = no_match
 
-abbrev pub closed_call : Option PlainDef → List ℕ → List PlainTerm → PlainTerm → Result Instance Why
+abbrev pub closed_call : Option PlainDef → List ℕ → List PlainTerm → PlainTerm → Result PlainInstance Why
 closed_call None f ts old = Err UnknownLaw
 closed_call (Some d) f ts old = closed_from (opened d ts) (app (call f) (term_row ts)) old
 
-abbrev pub fold_forth : List ℕ → Bool → List PlainTerm → List PlainDef → PlainTerm → Result Instance Why
+abbrev pub fold_forth : List ℕ → Bool → List PlainTerm → List PlainDef → PlainTerm → Result PlainInstance Why
 fold_forth f false args defs old = closed_call (definition_of f defs) f args old
 fold_forth f back args defs old = no_match
 

@@ -5,7 +5,7 @@ use Rattle.kid_term.specs.declared.operator.Op.TheVariants.{Logic}
 use Rattle.kid_term.specs.declared.operator.LogicOp.TheVariants.{Eq}
 use Rattle.kid_term.specs.declared.why.Why.{Why}
 use Rattle.kid_scope.specs.Same.{same_term}
-use Rattle.kid_scope.specs.Rewriting.{Instance, Rule}
+use Rattle.kid_scope.specs.Rewriting.{PlainInstance, Rule}
 use Rattle.kid_scope.specs.Instances.{no_match, just}
 
 abbrev pub nth : List PlainTerm → ℕ → Option PlainTerm
@@ -22,20 +22,20 @@ abbrev pub sides_of : PlainTerm → Option (PlainTerm × PlainTerm)
 sides_of (app (op (Logic Eq)) (term l (term r no_term))) = Some (l, r)
 sides_of t = None
 
-abbrev pub exchanged : PlainTerm → PlainTerm → PlainTerm → Result Instance Why
+abbrev pub exchanged : PlainTerm → PlainTerm → PlainTerm → Result PlainInstance Why
 exchanged from to old = cond (same_term from old) (just to) no_match
 
-abbrev pub used_as : Bool → PlainTerm → Option (PlainTerm × PlainTerm) → PlainTerm → Result Instance Why
+abbrev pub used_as : Bool → PlainTerm → Option (PlainTerm × PlainTerm) → PlainTerm → Result PlainInstance Why
 used_as false fact (Some p) old = exchanged p.0 p.1 old
 used_as true fact (Some p) old = exchanged p.1 p.0 old
 used_as false fact None old = exchanged fact (truth true) old
 used_as true fact None old = no_match
 
-abbrev pub used : Bool → Option PlainTerm → PlainTerm → Result Instance Why
+abbrev pub used : Bool → Option PlainTerm → PlainTerm → Result PlainInstance Why
 used back None old = no_match
 used back (Some fact) old = used_as back fact (sides_of fact) old
 
-abbrev pub use_alone : ℕ → Bool → List PlainTerm → List PlainTerm → PlainTerm → Result Instance Why
+abbrev pub use_alone : ℕ → Bool → List PlainTerm → List PlainTerm → PlainTerm → Result PlainInstance Why
 use_alone k back [] facts old = used back (fact_at facts k) old
 use_alone k back args facts old = no_match
 
