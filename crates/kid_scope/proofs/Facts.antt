@@ -1,5 +1,5 @@
 -- Facts by their numbers, the sides of equations, and rows of terms.
-use Rattle.std.proofs.Common.{◌≡◌, ◌≢◌, ℕ, zero, suc, ◌<◌, ◌≤◌, List, [], ◌∷◌, Some, None, map, length, refl, ap, sym, arith}
+use Rattle.std.proofs.Common.{◌≡◌, ◌≢◌, ℕ, zero, suc, ◌<◌, ◌≤◌, List, [], ◌∷◌, Some, None, map, length, refl, ap, arith}
 use Rattle.std.specs.Prelude.{get_or}
 use Rattle.kid_term.specs.PlainTerm.{PlainTerm, op, app, terms, term_row}
 use Rattle.kid_term.specs.TermView.{plain_term}

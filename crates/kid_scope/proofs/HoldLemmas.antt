@@ -1,9 +1,9 @@
 -- A condition that holds is true.
-use Rattle.std.proofs.Common.{◌≡◌, ℤ, Bool, true, List, [], ◌∷◌, Ok, Err, refl, sym, ap, ◌∙◌, subst, inl, inr, arith}
+use Rattle.std.proofs.Common.{◌≡◌, ℤ, Bool, true, List, [], ◌∷◌, Ok, refl, sym, ap, ◌∙◌, subst, inl, inr, arith}
 use Rattle.std.specs.Prelude.{not, ◌&&◌, ◌||◌, int_le, int_lt, ◌≤ℤ◌}
 use Rattle.std.proofs.lemmas.Int.{ints as int_rules}
 use Rattle.kid_value.specs.PlainValue.{PlainValue, int}
-use Rattle.kid_value.specs.PlainSort.{PlainSort, ints}
+use Rattle.kid_value.specs.PlainSort.{ints}
 use Rattle.kid_value.specs.Rows.Parts.{truth_of}
 use Rattle.kid_value.specs.Rows.Number as row
 use Rattle.kid_value.specs.Rows.Logic as logic_row
@@ -25,7 +25,7 @@ use Rattle.kid_term.proofs.SortedValue.{calls_fit, evaluates}
 use Rattle.kid_term.specs.Truths.{IsTrueAt, AllTrue}
 use Rattle.kid_scope.specs.Scope.{PlainScope}
 use Rattle.kid_scope.specs.Same.{same_term}
-use Rattle.kid_scope.specs.Holds.{stands_in, has_a_sort, lies_at_most, lies_below, sort_here, is_given, is_plainly_true, by_bounds, holds_whole, is_held, holds}
+use Rattle.kid_scope.specs.Holds.{stands_in, has_a_sort, lies_at_most, lies_below, sort_here, is_given, is_plainly_true, by_bounds, holds_whole, is_held}
 use Rattle.kid_scope.specs.Laws.{HeldAreTrue}
 use Rattle.kid_scope.proofs.SameLemmas.{same_term-true}
 use Rattle.kid_scope.proofs.Truths.{or_cases, both_true}

@@ -1,7 +1,6 @@
 -- What a law of a theory says is true of the terms that are put in.
-use Rattle.std.proofs.Common.{◌≡◌, ℕ, Bool, true, false, List, [], ◌∷◌, ◌++◌, Result, Ok, Err, refl, sym, ap, ◌∙◌, cond, subst, map, length, inl, inr, arith}
-use Rattle.std.specs.Prelude.{◌⊎◌, ◌||◌, nat_eq}
-use Rattle.std.proofs.lemmas.Bool.Decides.{nat_tests}
+use Rattle.std.proofs.Common.{◌≡◌, ℕ, Bool, true, false, List, [], ◌∷◌, ◌++◌, Ok, Err, refl, sym, ap, ◌∙◌, cond, subst, map, length, inl, inr, arith}
+use Rattle.std.specs.Prelude.{◌||◌}
 use Rattle.kid_value.specs.PlainValue.{PlainValue}
 use Rattle.kid_value.specs.PlainSort.{PlainSort}
 use Rattle.kid_value.specs.SortOrder.{is_subsort}
@@ -10,24 +9,20 @@ use Rattle.kid_term.specs.PlainTerm.{PlainTerm, term_row}
 use Rattle.kid_term.specs.Names.{same_name, Names, is_named, PlainDef}
 use Rattle.kid_term.specs.Sorted.{Sorted}
 use Rattle.kid_term.specs.Sorting.{sort_of}
-use Rattle.kid_term.specs.Simultaneous.{Subst, substituted, captures_any, values_of}
+use Rattle.kid_term.specs.Simultaneous.{substituted, captures_any}
 use Rattle.kid_term.specs.Eval.{Env, Calls, value_at, eval, evals, bound, calls_of}
-use Rattle.kid_term.specs.Substitution.{mentions}
-use Rattle.kid_term.specs.Fitting.{IsOfSort, AreOfSorts, AreAllowed, AreSound, Fits}
+use Rattle.kid_term.specs.Fitting.{AreOfSorts, AreAllowed, AreSound, Fits}
 use Rattle.kid_term.specs.PlainLaw.{PlainConclusion, equal, holds, PlainLaw}
-use Rattle.kid_term.specs.PlainTheory.{PlainTheory}
-use Rattle.kid_term.specs.Truths.{IsTrueAt, AllTrue}
+use Rattle.kid_term.specs.Truths.{AllTrue}
 use Rattle.kid_term.specs.Good.{IsConcluded, LawHolds, AllHold}
 use Rattle.kid_term.proofs.EvalLemmas.{eval-agree}
 use Rattle.kid_term.proofs.LogicSound.{IsOfSort-subsort}
 use Rattle.kid_term.proofs.SimultaneousLemmas.{eval-all}
 use Rattle.kid_term.proofs.SortedValue.{sorted-kept}
-use Rattle.kid_scope.specs.Cases.{IsClosed, AllClosed, IsSoundTheory, IsScope, Meets}
-use Rattle.kid_scope.specs.LawInstances.{Contains, AllFree, terms_of, ConcludedAt, sorts_for, IsInstanceOf, LawsOfTheoriesHold}
+use Rattle.kid_scope.specs.Cases.{IsClosed, AllClosed}
+use Rattle.kid_scope.specs.LawInstances.{Contains, AllFree, terms_of, ConcludedAt, sorts_for, LawsOfTheoriesHold}
 use Rattle.kid_scope.specs.Rewriting.{lies_within, all_within}
-use Rattle.kid_scope.specs.Scope.{PlainScope}
 use Rattle.kid_scope.specs.Unfolding.{paired}
-use Rattle.kid_scope.proofs.Truths.{or_cases, or_second}
 use Rattle.kid_scope.proofs.Unfolded.{paired-values, evals-length, as_many}
 
 -- ---- the law stands there

@@ -1,6 +1,6 @@
 -- What stands at a path, before and after another term was put there.
 use Rattle.std.proofs.Common.{◌≡◌, ℕ, zero, suc, ◌≤◌, List, [], ◌∷◌, Some, Ok, true, refl, sym, ap, subst, arith}
-use Rattle.std.specs.Prelude.{nat_le, max}
+use Rattle.std.specs.Prelude.{nat_le}
 use Rattle.std.proofs.lemmas.Bool.Decides.{nat_tests}
 use Rattle.kid_value.specs.PlainSort.{PlainSort, sets}
 use Rattle.kid_term.specs.PlainTerm.{PlainTerm, var, number, truth, tag, app, bind, PlainTerms, no_term, term, node_count, node_counts, depth, depths}

@@ -2,7 +2,7 @@
 use Rattle.std.proofs.Common.{◌≡◌, ℕ, suc, Bool, true, false, List, [], ◌∷◌, Option, Some, None, Result, Ok, Err, refl, ap, ◌∙◌, subst, cond}
 use Rattle.kid_value.specs.PlainSort.{PlainSort}
 use Rattle.kid_term.specs.PlainTerm.{PlainTerm}
-use Rattle.kid_term.specs.Names.{Names, PlainDef, latest_first}
+use Rattle.kid_term.specs.Names.{latest_first}
 use Rattle.kid_term.specs.Places.{put_at}
 use Rattle.kid_term.specs.Replacing.{subterm}
 use Rattle.kid_term.specs.Sorted.{Sorted}

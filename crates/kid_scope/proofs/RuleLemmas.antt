@@ -1,6 +1,6 @@
 -- The rules for calls, values, facts and casts keep the value.
 use Rattle.std.proofs.Common.{◌≡◌, ℕ, zero, suc, ℤ, Bool, true, false, List, [], ◌∷◌, Option, Some, None, Result, Ok, Err, refl, sym, ap, ◌∙◌, cond, subst, length}
-use Rattle.std.specs.Prelude.{pos, not, ◌&&◌, int_le, nat_le, nat_eq}
+use Rattle.std.specs.Prelude.{pos, int_le, nat_le, nat_eq}
 use Rattle.std.specs.List.{list_all}
 use Rattle.std.proofs.Common.{arith}
 use Rattle.std.proofs.lemmas.Int.{ints as int_rules}
@@ -9,20 +9,17 @@ use Rattle.kid_value.specs.PlainValue as value
 use Rattle.kid_value.specs.PlainValue.{PlainValue, int, bool, pair, set, seq, map_of, items}
 use Rattle.kid_value.specs.PlainSort.{PlainSort, never, bools, ints, pairs, sets, seqs, maps, enums, has_sort}
 use Rattle.kid_value.specs.SortOrder.{is_subsort}
-use Rattle.kid_value.specs.Least.{least_value}
 use Rattle.kid_value.specs.Rows.Parts.{truth_of}
 use Rattle.kid_value.specs.Rows.Number as row
 use Rattle.kid_value.specs.Rows.Seq as seq_row
 use Rattle.kid_value.specs.Rows.Logic as logic_row
 use Rattle.kid_value.proofs.SortLemmas.{and_parts, and_both, list_all-weaker, has_sort-subsort}
 use Rattle.kid_value.proofs.ValueSetLaws.{value_eq-true}
-use Rattle.kid_term.specs.PlainTerm.{PlainHead, op, call, cast, PlainTerm, var, number, truth, tag, app, bind, PlainTerms, no_term, term, terms, term_row}
-use Rattle.kid_term.specs.Names.{Names, PlainDef, latest_first}
-use Rattle.kid_term.specs.Chain.{◌>>=◌}
+use Rattle.kid_term.specs.PlainTerm.{op, call, cast, PlainTerm, number, truth, app, no_term, term, terms, term_row}
+use Rattle.kid_term.specs.Names.{PlainDef}
 use Rattle.kid_term.specs.Sorted.{Sorted}
 use Rattle.kid_term.specs.Sorting.{sort_of}
 use Rattle.kid_term.specs.Eval.{Env, Calls, eval, calls_of, cast_value}
-use Rattle.kid_term.specs.Fitting.{IsOfSort}
 use Rattle.kid_term.specs.Closed.{is_closed}
 use Rattle.kid_term.specs.Quote.{quote}
 use Rattle.kid_term.specs.Simultaneous.{substituted, captures_any}
@@ -41,11 +38,10 @@ use Rattle.kid_term.specs.PlainTheory.{PlainTheory}
 use Rattle.kid_scope.specs.Same.{same_term}
 use Rattle.kid_scope.specs.Rewriting.{PlainInstance, Rule, KeepsValue, lies_within}
 use Rattle.kid_scope.specs.Instances.{no_match, just, provided, forth_alone}
-use Rattle.kid_scope.specs.Unfolding.{paired, opened, opened_call, opened_in, unfold_call, closed_from, closed_call, fold_forth, fold_call}
-use Rattle.kid_scope.specs.Settling as settling
-use Rattle.kid_scope.specs.Settling.{computed, compute, is_a_truth, settled_as, fails}
-use Rattle.kid_scope.specs.Using.{nth, fact_at, sides_of, exchanged, used_as, used, use_alone, use_fact}
-use Rattle.kid_scope.specs.Uncasting.{at_most, length_of, uncast_from, uncast_in, uncast}
+use Rattle.kid_scope.specs.Unfolding.{paired, opened, opened_call, opened_in, closed_from, closed_call, fold_forth}
+use Rattle.kid_scope.specs.Settling.{computed, is_a_truth, settled_as}
+use Rattle.kid_scope.specs.Using.{nth, fact_at, sides_of, exchanged, used_as, used, use_alone}
+use Rattle.kid_scope.specs.Uncasting.{at_most, length_of, uncast_from, uncast_in}
 use Rattle.kid_scope.specs.Laws.{PlaceRulesKeepValues, TermwiseRulesKeepValues}
 use Rattle.kid_scope.proofs.RewriteLemmas.{staged}
 use Rattle.kid_scope.proofs.SameLemmas.{same_term-true}

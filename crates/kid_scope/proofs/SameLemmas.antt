@@ -6,14 +6,13 @@ use Rattle.std.proofs.lemmas.Bool.Decides.{nat_tests}
 use Rattle.std.proofs.lemmas.Int.{ints as int_rules}
 use base.Stored.{Gv, gnil, gnum, gcons}
 use Rattle.kid_value.proofs.SortLemmas.{and_parts, and_both}
-use Rattle.kid_value.specs.PlainSort.{PlainSort}
 use Rattle.kid_value.specs.SortCode.{sort_code, sort_inj}
 use Rattle.kid_term.specs.Names.{same_name}
 use Rattle.kid_term.specs.PlainTerm.{PlainHead, op, call, cast, PlainTerm, var, number, truth, tag, app, bind, PlainTerms, no_term, term}
 use Rattle.kid_term.specs.contracts.operator.Op as contract_of_op
 use Rattle.kid_term.specs.contracts.operator.Binder as contract_of_binder
 use Rattle.kid_term.proofs.EvalLemmas.{same_name-itself, same_name-true}
-use Rattle.kid_scope.specs.Same.{same_code, same_operator, same_binder, same_sort, same_head, same_term, same_terms}
+use Rattle.kid_scope.specs.Same.{same_code, same_binder, same_head, same_term, same_terms}
 
 same_code-itself : (a : Gv) → same_code a a ≡ true
 same_code-itself gnil = refl

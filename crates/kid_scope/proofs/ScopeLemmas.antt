@@ -4,7 +4,6 @@ use Rattle.std.specs.Prelude.{not, ◌||◌}
 use Rattle.kid_value.specs.PlainValue as value
 use Rattle.kid_value.specs.PlainValue.{PlainValue, int, bool, pair, set, seq, map_of}
 use Rattle.kid_value.specs.PlainSort.{PlainSort, never, bools, ints, pairs, sets, seqs, maps, enums, has_sort}
-use Rattle.kid_value.specs.SortLimits.{is_allowed}
 use Rattle.kid_value.specs.ValueSet.{is_member, value_eq}
 use Rattle.kid_value.specs.Rows.Logic as row
 use Rattle.kid_value.specs.Rows.Parts.{truth_of, members_of}
@@ -18,7 +17,7 @@ use Rattle.kid_term.specs.Names.{same_name, Names, is_named, PlainDef, latest_fi
 use Rattle.kid_term.specs.LogicSorts.{logic_sort}
 use Rattle.kid_term.specs.SetRows.{set_value}
 use Rattle.kid_term.specs.Eval.{Env, Calls, value_at, eval, evals, calls_of}
-use Rattle.kid_term.specs.Small.{Checks, checks_of}
+use Rattle.kid_term.specs.Small.{Checks}
 use Rattle.kid_term.specs.Sorted.{Sorted, Shadow, with_set, ◌>>=◌}
 use Rattle.kid_term.specs.Written.{Numbers, written}
 use Rattle.kid_term.specs.Sorting.{least_sort, least_sorts, binder_sort, unshadowed, head_sort}
@@ -32,8 +31,8 @@ use Rattle.kid_term.proofs.Members.{Each, members_sound}
 use Rattle.kid_term.proofs.SortedValue.{CallsFit, Fits-more, AreAllowed-more, element_allowed, evaluates, binder_ok, all_evaluate}
 use Rattle.kid_term.specs.PlainTheory.{PlainTheory}
 use Rattle.kid_term.specs.Truths.{AllTrue}
-use Rattle.kid_scope.specs.Cases.{IsClosed, AllClosed, IsScope, IsCase, Meets}
-use Rattle.kid_scope.specs.Scope.{PlainScope, negated, member, assumptions, with_assumed, element_sort, under_binder, scope_at, scope_among}
+use Rattle.kid_scope.specs.Cases.{IsClosed, AllClosed, IsScope, Meets}
+use Rattle.kid_scope.specs.Scope.{PlainScope, member, assumptions, with_assumed, element_sort, under_binder, scope_at, scope_among}
 use Rattle.kid_scope.proofs.Truths.{or_cases, or_second, or_false, AllTrue-append, AllClosed-append, AllClosed-more}
 use Rattle.kid_term.proofs.Scopes.{mentions-named, names-differ}
 

@@ -8,9 +8,9 @@ use Rattle.kid_value.specs.Rows.Parts.{truth_of}
 use Rattle.kid_value.specs.Rows.Logic as row
 use Rattle.kid_term.specs.PlainTerm.{PlainTerm}
 use Rattle.kid_term.specs.Names.{same_name, Names, is_named}
-use Rattle.kid_term.specs.Eval.{Env, Calls, eval}
+use Rattle.kid_term.specs.Eval.{Env, Calls}
 use Rattle.kid_term.specs.Truths.{AllTrue}
-use Rattle.kid_scope.specs.Cases.{IsClosed, AllClosed}
+use Rattle.kid_scope.specs.Cases.{AllClosed}
 
 pub or_cases : (b c : Bool) → (b || c) ≡ true → (b ≡ true) ⊎ (c ≡ true)
 or_cases true c p = inl refl

@@ -1,21 +1,21 @@
 -- A call has the value of its definition's body, with the arguments in the parameters' places.
-use Rattle.std.proofs.Common.{◌≡◌, ℕ, zero, suc, Bool, true, false, List, [], ◌∷◌, ◌++◌, Option, Some, None, Result, Ok, Err, refl, sym, ap, ◌∙◌, cond, subst, length, inl, inr, arith}
-use Rattle.std.specs.Prelude.{not, ◌||◌, nat_eq}
+use Rattle.std.proofs.Common.{◌≡◌, ℕ, suc, Bool, true, false, List, [], ◌∷◌, ◌++◌, Option, Some, Ok, refl, sym, ap, ◌∙◌, cond, subst, length, inl, inr, arith}
+use Rattle.std.specs.Prelude.{◌||◌, nat_eq}
 use Rattle.std.proofs.lemmas.Bool.Decides.{nat_tests}
 use Rattle.kid_value.specs.PlainValue.{PlainValue, bool}
 use Rattle.kid_value.specs.PlainSort.{PlainSort, sets}
 use Rattle.kid_value.specs.Rows.Parts.{members_of}
 use Rattle.kid_term.specs.PlainTerm.{PlainHead, op, call, cast, PlainTerm, var, number, truth, tag, app, bind, PlainTerms, no_term, term, terms, term_row}
-use Rattle.kid_term.specs.Names.{same_name, Names, is_named, PlainDef, latest_over, latest_first}
-use Rattle.kid_term.specs.Sorted.{Sorted, ◌>>=◌}
+use Rattle.kid_term.specs.Names.{same_name, Names, is_named, PlainDef, latest_over}
+use Rattle.kid_term.specs.Sorted.{◌>>=◌}
 use Rattle.kid_term.specs.Written.{written}
 use Rattle.kid_term.specs.Sorting.{call_sort, head_sort, least_sort, least_sorts}
 use Rattle.kid_term.specs.Eval.{Env, Calls, value_at, call_at, head_value, binder_value, eval, evals, bound, def_value, calls_over, calls_of}
 use Rattle.kid_term.specs.Substitution.{mentions}
-use Rattle.kid_term.specs.Simultaneous.{Subst, substituted, captures_any, values_of}
+use Rattle.kid_term.specs.Simultaneous.{substituted, captures_any, values_of}
 use Rattle.kid_term.specs.Fitting.{AreSoundOver, AreSound}
 use Rattle.kid_term.proofs.EvalLemmas.{eval-agree, same_name-itself, same_name-true}
-use Rattle.kid_term.proofs.Inversions.{bind_ok, ok}
+use Rattle.kid_term.proofs.Inversions.{bind_ok}
 use Rattle.kid_term.proofs.SimultaneousLemmas.{eval-all}
 use Rattle.kid_term.proofs.SortedValue.{binder_ok}
 use Rattle.kid_term.specs.Definition.{first_named, definition_of}

@@ -5,7 +5,6 @@ use Rattle.kid_term.specs.Names.{Names, is_named}
 use Rattle.kid_term.specs.Eval.{Env, value_at, calls_of}
 use Rattle.kid_term.specs.Fitting.{Fits, AreAllowed, AreSound}
 use Rattle.kid_term.specs.Substitution.{mentions}
-use Rattle.kid_term.specs.PlainLaw.{PlainConclusion, equal, holds, PlainLaw}
 use Rattle.kid_term.specs.PlainTheory.{PlainTheory}
 use Rattle.kid_term.specs.Truths.{AllTrue}
 use Rattle.kid_term.specs.Good.{Good, AllHold}

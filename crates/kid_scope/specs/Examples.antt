@@ -12,7 +12,7 @@ use Rattle.kid_term.specs.declared.why.Why.TheVariants.{NoPath, UnknownLaw, Cond
 use Rattle.kid_term.specs.PlainTheory.{PlainTheory}
 use Rattle.kid_scope.specs.Scope.{PlainScope, negated, member, scope_at}
 use Rattle.kid_scope.specs.Holds.{holds}
-use Rattle.kid_scope.specs.Rewriting.{Rule, PlainInstance, rewritten}
+use Rattle.kid_scope.specs.Rewriting.{Rule, rewritten}
 
 -- p and q are truth values, a is from 0 to 3 and b from 3 to 5
 abbrev pub p : PlainTerm

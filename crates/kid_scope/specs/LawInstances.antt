@@ -1,14 +1,14 @@
 -- Instances of the laws and axioms of a theory.
-use Rattle.std.specs.Prelude.{◌≡◌, ◌⊎◌, ℕ, nat_eq, true, false, List, [], ◌∷◌, ◌++◌, map, length}
+use Rattle.std.specs.Prelude.{◌≡◌, ◌⊎◌, nat_eq, true, false, List, [], ◌∷◌, ◌++◌, map, length}
 use Rattle.kid_value.specs.PlainSort.{PlainSort}
 use Rattle.kid_term.specs.PlainTerm.{PlainTerm}
-use Rattle.kid_term.specs.Names.{Names, PlainDef}
+use Rattle.kid_term.specs.Names.{Names}
 use Rattle.kid_term.specs.Simultaneous.{Subst, substituted, captures_any}
 use Rattle.kid_term.specs.Eval.{Env, Calls, eval, calls_of}
 use Rattle.kid_term.specs.PlainLaw.{PlainConclusion, equal, holds, PlainLaw}
 use Rattle.kid_term.specs.PlainTheory.{PlainTheory}
 use Rattle.kid_term.specs.Truths.{IsTrueAt, AllTrue}
-use Rattle.kid_scope.specs.Cases.{IsClosed, AllClosed, IsSoundTheory, IsScope, Meets}
+use Rattle.kid_scope.specs.Cases.{AllClosed, IsSoundTheory, IsScope, Meets}
 use Rattle.kid_scope.specs.Rewriting.{all_within}
 use Rattle.kid_scope.specs.Scope.{PlainScope}
 use Rattle.kid_scope.specs.Unfolding.{paired}

@@ -1,6 +1,6 @@
 -- What the rules make of small terms.
-use Rattle.std.specs.Prelude.{◌≡◌, ℕ, Bool, true, false, pos, List, [], ◌∷◌, Result, Err}
-use Rattle.kid_value.specs.PlainSort.{PlainSort, bools, ints, sets, seqs}
+use Rattle.std.specs.Prelude.{◌≡◌, true, false, pos, [], ◌∷◌, Result, Err}
+use Rattle.kid_value.specs.PlainSort.{bools, ints, sets, seqs}
 use Rattle.kid_term.specs.PlainTerm.{PlainTerm, op, call, cast, var, number, truth, app, bind, no_term, term}
 use Rattle.kid_term.specs.Names.{PlainDef}
 use Rattle.kid_term.specs.PlainTheory.{PlainTheory}

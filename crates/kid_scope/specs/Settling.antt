@@ -9,7 +9,7 @@ use Rattle.kid_term.specs.Eval.{eval, calls_of}
 use Rattle.kid_term.specs.Closed.{is_closed}
 use Rattle.kid_term.specs.Quote.{quote}
 use Rattle.kid_term.specs.declared.why.Why.{Why}
-use Rattle.kid_scope.specs.Scope.{PlainScope, negated}
+use Rattle.kid_scope.specs.Scope.{negated}
 use Rattle.kid_scope.specs.Rewriting.{PlainInstance, Rule}
 use Rattle.kid_scope.specs.Instances.{no_match, just, provided, forth_alone}
 

@@ -1,5 +1,5 @@
 -- A cast that changes nothing is taken away.
-use Rattle.std.specs.Prelude.{Bool, ℕ, ℤ, pos, cond, List, [], ◌∷◌, Result, Ok, Err}
+use Rattle.std.specs.Prelude.{Bool, pos, cond, List, [], ◌∷◌, Result, Ok}
 use Rattle.kid_value.specs.PlainSort.{PlainSort, ints, seqs}
 use Rattle.kid_value.specs.SortOrder.{is_subsort}
 use Rattle.kid_term.specs.PlainTerm.{cast, PlainTerm, op, number, app, no_term, term}

@@ -1,7 +1,7 @@
 -- Calls of definitions, opened and closed again.
 use Rattle.std.specs.Prelude.{ℕ, Bool, false, nat_eq, cond, List, [], ◌∷◌, length, Option, Some, None, Result, Ok, Err}
 use Rattle.kid_term.specs.PlainTerm.{call, PlainTerm, app, terms, term_row}
-use Rattle.kid_term.specs.Names.{Names, PlainDef, latest_first}
+use Rattle.kid_term.specs.Names.{Names, PlainDef}
 use Rattle.kid_term.specs.Chain.{◌>>=◌}
 use Rattle.kid_term.specs.Simultaneous.{Subst, substituted, captures_any}
 use Rattle.kid_term.specs.declared.why.Why.{Why}

@@ -1,5 +1,5 @@
 -- What a numbered fact makes of a term: of one side of an equation the other, and of any other fact the word true.
-use Rattle.std.specs.Prelude.{ℕ, zero, suc, Bool, true, false, cond, List, [], ◌∷◌, Option, Some, None, Result, Ok, Err}
+use Rattle.std.specs.Prelude.{ℕ, zero, suc, Bool, true, false, cond, List, [], ◌∷◌, Option, Some, None, Result}
 use Rattle.kid_term.specs.PlainTerm.{PlainTerm, op, truth, app, no_term, term}
 use Rattle.kid_term.specs.declared.operator.Op.TheVariants.{Logic}
 use Rattle.kid_term.specs.declared.operator.LogicOp.TheVariants.{Eq}
