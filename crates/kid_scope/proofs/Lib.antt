@@ -1,0 +1,11 @@
+pub mod ExampleProofs
+pub mod Facts
+pub mod HoldLemmas
+pub mod LawLemmas
+pub mod Places
+pub mod RewriteLemmas
+pub mod RuleLemmas
+pub mod SameLemmas
+pub mod ScopeLemmas
+pub mod Truths
+pub mod Unfolded

@@ -1,0 +1,16 @@
+pub mod Cases
+pub mod Definitions
+pub mod Examples
+pub mod Holds
+pub mod InstanceView
+pub mod Instances
+pub mod LawInstances
+pub mod Laws
+pub mod Rewriting
+pub mod RuleExamples
+pub mod Same
+pub mod Scope
+pub mod Settling
+pub mod Uncasting
+pub mod Unfolding
+pub mod Using
