@@ -42,6 +42,11 @@ pub after_stage : {X Y Z W : Type 0} (h : Option Held) (view : X → Y) (x : X) 
 after_stage None view x later r first rest e comes = tt
 after_stage {Y = Y} (Some files) view x later r first rest e comes = subst (λ (o : Result Y Stop). Comes later r (o >>= rest files)) (sym e) comes
 
+-- what comes whatever is held
+pub at_any : {Z W : Type 0} (h : Option Held) (later : Z → W) (r : Result Z Stop) (o : Result W Stop) → Comes later r o → Outcomes h later r (λ files. o)
+at_any None later r o comes = tt
+at_any (Some files) later r o comes = comes
+
 -- ---- counts that rose after others
 
 pub rose_later : (a b c : ℕ) → a ≤ b → Rose b c → Rose a c

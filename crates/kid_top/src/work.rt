@@ -1,15 +1,18 @@
 //! What a command is to do, once its files are read.
-ghost use Rattle.std.specs.Prelude.{◌≡◌, ◌≢◌, [], IfOk, IsErrOf};
+ghost use Rattle.std.specs.Prelude.{◌≡◌, ◌≢◌, [], true, Ok, IfOk, IfErr, IsErrOf};
 ghost use Rattle.std.specs.Bool.{OnFalse};
 ghost use Rattle.kid_outer.specs.Causes.{NeverFall, Rose};
 ghost use Rattle.kid_kernel.specs.TheoryView.{plain_theory};
 ghost use Rattle.kid_theory.specs.IsRead.{IsRead};
 ghost use Rattle.kid_prog.specs.ProgramView.{plain_program};
+ghost use Rattle.kid_prog.specs.ProgramText.{program_text};
 ghost use Rattle.kid_prog.specs.Rules.{IsRunnable};
+ghost use Rattle.kid_prog.specs.Spelling.{is_spelled_program};
+ghost use Rattle.kid_top.specs.Derivation.{derivation_text as text_of_derivation};
 ghost use Rattle.kid_top.specs.Command.{derive, run, solve};
 ghost use Rattle.kid_top.specs.Failed.{has_failed};
 ghost use Rattle.kid_top.specs.Words.{plain_command, IsUsable};
-ghost use Rattle.kid_top.specs.Outcome.{Outcomes, run_inputs, run_work, solve_theory, solve_work, derive_theory, derive_work, work_of};
+ghost use Rattle.kid_top.specs.Outcome.{Comes, Outcomes, saves, run_inputs, run_work, solve_theory, solve_work, derive_theory, derive_work, work_of};
 ghost use Rattle.kid_top.specs.WorkView.{plain_work, IsReady, Suits};
 ghost use Rattle.kid_top.specs.Risen.{RunRose, TheoryRose, SolveRose, DeriveRose, WorkRose};
 
@@ -131,6 +134,35 @@ fn solve_work<'a, S: Store>(
     solve_theory(alloc, store, &theory, script, inputs, fuel)
 }
 
+/// The work of saving a derived program under two names, the text of its derivation under the first.
+fn saving<'a>(
+    alloc: Global,
+    derived: &Program,
+    derivation: &'a str,
+    program: &'a str,
+) -> Result<Work<'a>, Stop>
+    requires runnable { IsRunnable (plain_program derived.now) }
+    requires spelled { is_spelled_program (plain_program derived.now) ≡ true }
+    requires apart { derivation.now ≢ program.now }
+    ensures ready { IfOk result IsReady }
+    ensures outcome { Comes plain_work result (Ok (saves derivation.now program.now (text_of_derivation (plain_program derived.now)) (program_text (plain_program derived.now)))) }
+    ensures suits { IfOk result (λ w. Suits (derive [] [] derivation.now program.now) (plain_work w)) }
+    ensures memory { IfErr result (λ why. why ≡ Stop.Memory) }
+{
+    match derivation_text(alloc, derived) {
+        Ok(derivation_bytes) => match text(alloc, derived) {
+            Ok(program_bytes) => Ok(Work::Save {
+                derivation,
+                program,
+                derivation_bytes,
+                program_bytes,
+            }),
+            Err(_) => Err(Stop::Memory),
+        },
+        Err(_) => Err(Stop::Memory),
+    }
+}
+
 /// Derives the two texts for a theory by the script.
 fn derive_theory<'a, S: Store>(
     alloc: Global,
@@ -152,15 +184,7 @@ fn derive_theory<'a, S: Store>(
     ensures fits { IsErrOf result Stop.Usage → ⊥ }
 {
     let derived = script_program(alloc, store, theory, script)?;
-    match (derivation_text(alloc, &derived), text(alloc, &derived)) {
-        (Ok(derivation_bytes), Ok(program_bytes)) => Ok(Work::Save {
-            derivation,
-            program,
-            derivation_bytes,
-            program_bytes,
-        }),
-        _ => Err(Stop::Memory),
-    }
+    saving(alloc, &derived, derivation, program)
 }
 
 fn derive_work<'a, S: Store>(

@@ -4,7 +4,7 @@ use Rattle.kid_outer.specs.Held.{Held}
 use Rattle.kid_top.specs.Finishing.{Finishes, FinishKeeps, FinishWhole}
 use Rattle.kid_top.specs.Words.{plain_command}
 use Rattle.kid_top.specs.WorkView.{plain_work}
-use Rattle.kid_top.proofs.Performed.{front-untouched, gives_work, files-by, derived-by}
+use Rattle.kid_top.proofs.Performed.{front-of_work, front-untouched, gives_work, files-by, derived-by}
 use Rattle.kid_top.specs.Command.{command_of}
 use Rattle.kid_top.proofs.Whole.{whole-untouched, whole-by, leaves-untouched, leaves-by}
 use Rattle.kid_top.proofs.Silent.{silent-by}
@@ -12,6 +12,12 @@ use Rattle.kid_top.proofs.top.perform.Goals as goal
 
 pub returns-in_err-work-clause-front : goal.returns-in_err-work-clause-front
 returns-in_err-work-clause-front g c = front-untouched (map string_bytes c.args.words.now) (g.S.Store.held c.args.store.now) (g.O.Sink.written c.args.out.now)
+
+pub returns-clause-front : goal.returns-clause-front
+returns-clause-front g c =
+    front-of_work (map string_bytes c.args.words.now) (plain_command c.in-Some.command) (plain_work c.in_ok-work.work) (g.S.Store.held c.args.store.now)
+    (g.O.Sink.written c.args.out.now) (g.O.Sink.written c.finish.new.out) c.in-Some.ensures.command
+    (gives_work (plain_command c.in-Some.command) (g.S.Store.held c.args.store.now) c.in_ok-work.work c.in_ok-work.ensures.outcome) c.finish.ensures.front
 
 pub returns-clause-files : goal.returns-clause-files
 returns-clause-files g c =
