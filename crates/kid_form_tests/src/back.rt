@@ -1,91 +1,118 @@
-//! Reads a text by a form and prints what was read, or tells its fault. `None` is want of memory, or a text that is no tree where the
-//! test needs one.
+//! Reads a text by a form and prints what was read, or tells whether it has another form. `None` is want of memory, or a text that is
+//! not one tree. Trees stay in their forests, which are dropped by one call.
 use kid_codec::CodecFault;
 use kid_form::{
     DeclaredWords, PathForm, TreeForm, definition_tree, first_tree, read_first,
     read_program_definition, read_theory_definition,
 };
 use kid_sexp::{Forest, Tree, print, read};
+use kid_value::Memory;
 use std::alloc::Global;
 
-fn tree(alloc: Global, text: &[u8]) -> Option<Tree> {
-    let mut trees = read(alloc, text).ok()?.into_vec();
-    trees.pop()
+/// What a text is read as.
+#[derive(Clone, Copy)]
+pub enum Form {
+    TheoryDefinition,
+    ProgramDefinition,
+    First,
+    Path,
 }
 
-fn printed(alloc: Global, tree: Tree) -> Option<Vec<u8>> {
-    let mut forest = Forest::new(alloc);
-    forest.push(tree).ok()?;
+fn put(forest: &mut Forest, tree: Tree) -> Option<()> {
+    forest.push(tree).ok()
+}
+
+fn put_made(forest: &mut Forest, made: Result<Tree, Memory>) -> Option<()> {
+    match made {
+        Ok(tree) => put(forest, tree),
+        Err(_) => None,
+    }
+}
+
+fn put_theory_definition(alloc: Global, tree: &Tree, back: &mut Forest) -> Option<()> {
+    let definition = read_theory_definition(alloc, tree).ok()?;
+    put_made(back, definition_tree(alloc, &definition))
+}
+
+fn put_program_definition(alloc: Global, tree: &Tree, back: &mut Forest) -> Option<()> {
+    let definition = read_program_definition(alloc, tree).ok()?;
+    put_made(back, definition_tree(alloc, &definition))
+}
+
+fn put_first(alloc: Global, tree: &Tree, back: &mut Forest) -> Option<()> {
+    let count = read_first(alloc, tree).ok()?;
+    put_made(back, first_tree(alloc, count))
+}
+
+fn put_path(alloc: Global, tree: &Tree, back: &mut Forest) -> Option<()> {
+    let path = PathForm::read(alloc, tree).ok()?;
+    put_made(back, PathForm::tree(alloc, &path))
+}
+
+fn put_back(alloc: Global, form: Form, tree: &Tree, back: &mut Forest) -> Option<()> {
+    match form {
+        Form::TheoryDefinition => put_theory_definition(alloc, tree, back),
+        Form::ProgramDefinition => put_program_definition(alloc, tree, back),
+        Form::First => put_first(alloc, tree, back),
+        Form::Path => put_path(alloc, tree, back),
+    }
+}
+
+fn is_printed(alloc: Global, forest: &Forest, want: &str) -> Option<bool> {
     if !forest.is_printable() {
         return None;
     }
-    print(alloc, &forest).ok()
+    let printed = print(alloc, forest).ok()?;
+    Some(printed.as_slice() == want.as_bytes())
 }
 
-pub fn theory_back(alloc: Global, text: &str) -> Option<Vec<u8>> {
-    let tree = tree(alloc, text.as_bytes())?;
-    let definition = read_theory_definition(alloc, &tree).ok()?;
-    let back = definition_tree(alloc, &definition).ok()?;
-    printed(alloc, back)
+fn told_back(alloc: Global, form: Form, text: &str) -> Option<bool> {
+    let forest = read(alloc, text.as_bytes()).ok()?;
+    let mut back = Forest::new(alloc);
+    match forest.as_slice() {
+        [tree] => put_back(alloc, form, tree, &mut back)?,
+        _ => return None,
+    }
+    is_printed(alloc, &back, text)
 }
 
-pub fn program_back(alloc: Global, text: &str) -> Option<Vec<u8>> {
-    let tree = tree(alloc, text.as_bytes())?;
-    let definition = read_program_definition(alloc, &tree).ok()?;
-    let back = definition_tree(alloc, &definition).ok()?;
-    printed(alloc, back)
+/// Whether the text is read, and then printed as it was.
+pub fn is_read_back(alloc: Global, form: Form, text: &str) -> bool {
+    matches!(told_back(alloc, form, text), Some(true))
 }
 
-pub fn first_back(alloc: Global, text: &str) -> Option<Vec<u8>> {
-    let tree = tree(alloc, text.as_bytes())?;
-    let count = read_first(alloc, &tree).ok()?;
-    let back = first_tree(alloc, count).ok()?;
-    printed(alloc, back)
+fn fault_of(alloc: Global, form: Form, tree: &Tree) -> Option<CodecFault> {
+    match form {
+        Form::TheoryDefinition => read_theory_definition(alloc, tree).err(),
+        Form::ProgramDefinition => read_program_definition(alloc, tree).err(),
+        Form::First => read_first(alloc, tree).err(),
+        Form::Path => PathForm::read(alloc, tree).err(),
+    }
 }
 
-pub fn path_back(alloc: Global, text: &str) -> Option<Vec<u8>> {
-    let tree = tree(alloc, text.as_bytes())?;
-    let path = PathForm::read(alloc, &tree).ok()?;
-    let back = PathForm::tree(alloc, &path).ok()?;
-    printed(alloc, back)
+fn told_fault(alloc: Global, form: Form, text: &str) -> Option<CodecFault> {
+    let forest = read(alloc, text.as_bytes()).ok()?;
+    match forest.as_slice() {
+        [tree] => fault_of(alloc, form, tree),
+        _ => None,
+    }
 }
 
-pub fn theory_fault(alloc: Global, text: &str) -> Option<CodecFault> {
-    let tree = tree(alloc, text.as_bytes())?;
-    read_theory_definition(alloc, &tree).err()
+/// Whether the text has another form.
+pub fn is_refused(alloc: Global, form: Form, text: &str) -> bool {
+    matches!(told_fault(alloc, form, text), Some(CodecFault::Form))
 }
 
-pub fn program_fault(alloc: Global, text: &str) -> Option<CodecFault> {
-    let tree = tree(alloc, text.as_bytes())?;
-    read_program_definition(alloc, &tree).err()
-}
-
-pub fn first_fault(alloc: Global, text: &str) -> Option<CodecFault> {
-    let tree = tree(alloc, text.as_bytes())?;
-    read_first(alloc, &tree).err()
-}
-
-pub fn path_fault(alloc: Global, text: &str) -> Option<CodecFault> {
-    let tree = tree(alloc, text.as_bytes())?;
-    PathForm::read(alloc, &tree).err()
-}
-
-/// Whether the text had another form.
-pub fn is_form(found: Option<CodecFault>) -> bool {
-    found == Some(CodecFault::Form)
+fn names_count(alloc: Global, tree: &Tree) -> Option<usize> {
+    let names = DeclaredWords::read(alloc, tree).ok()?;
+    Some(names.items().len())
 }
 
 /// How many names with their sorts a text declares.
 pub fn declared_count(alloc: Global, text: &[u8]) -> Option<usize> {
-    let tree = tree(alloc, text)?;
-    let names = DeclaredWords::read(alloc, &tree).ok()?;
-    Some(names.items().len())
-}
-
-/// Whether this text was printed.
-pub fn is_text(found: Option<Vec<u8>>, want: &str) -> bool {
-    match found {
-        Some(found) => found.as_slice() == want.as_bytes(),
-        None => false,
+    let forest = read(alloc, text).ok()?;
+    match forest.as_slice() {
+        [tree] => names_count(alloc, tree),
+        _ => None,
     }
 }

@@ -1,8 +1,5 @@
 //! Texts that are read and printed back, and texts that are refused.
-use crate::back::{
-    declared_count, first_back, first_fault, is_form, is_text, path_back, path_fault, program_back,
-    program_fault, theory_back, theory_fault,
-};
+use crate::back::{Form, declared_count, is_read_back, is_refused};
 use std::alloc::Global;
 use std::process::Abort;
 
@@ -42,51 +39,15 @@ const PATHS: [&str; 3] = ["()\n", "(0)\n", "(1 0 4294967295)\n"];
 
 const NO_PATHS: [&str; 4] = ["0", "(-1)", "(4294967296)", "((0))"];
 
-fn theories_read_back(rt: &impl Abort, alloc: Global, texts: &[&str]) {
+fn reads_back(rt: &impl Abort, alloc: Global, form: Form, texts: &[&str]) {
     for text in texts {
-        assert!(rt; is_text(theory_back(alloc, text), text), "at {text}");
+        assert!(rt; is_read_back(alloc, form, text), "at {text}");
     }
 }
 
-fn theories_refuse(rt: &impl Abort, alloc: Global, texts: &[&str]) {
+fn refuses(rt: &impl Abort, alloc: Global, form: Form, texts: &[&str]) {
     for text in texts {
-        assert!(rt; is_form(theory_fault(alloc, text)), "at {text}");
-    }
-}
-
-fn programs_read_back(rt: &impl Abort, alloc: Global, texts: &[&str]) {
-    for text in texts {
-        assert!(rt; is_text(program_back(alloc, text), text), "at {text}");
-    }
-}
-
-fn programs_refuse(rt: &impl Abort, alloc: Global, texts: &[&str]) {
-    for text in texts {
-        assert!(rt; is_form(program_fault(alloc, text)), "at {text}");
-    }
-}
-
-fn counts_read_back(rt: &impl Abort, alloc: Global, texts: &[&str]) {
-    for text in texts {
-        assert!(rt; is_text(first_back(alloc, text), text), "at {text}");
-    }
-}
-
-fn are_no_counts(rt: &impl Abort, alloc: Global, texts: &[&str]) {
-    for text in texts {
-        assert!(rt; is_form(first_fault(alloc, text)), "at {text}");
-    }
-}
-
-fn paths_read_back(rt: &impl Abort, alloc: Global, texts: &[&str]) {
-    for text in texts {
-        assert!(rt; is_text(path_back(alloc, text), text), "at {text}");
-    }
-}
-
-fn are_no_paths(rt: &impl Abort, alloc: Global, texts: &[&str]) {
-    for text in texts {
-        assert!(rt; is_form(path_fault(alloc, text)), "at {text}");
+        assert!(rt; is_refused(alloc, form, text), "at {text}");
     }
 }
 
@@ -110,62 +71,72 @@ fn count_of_many(alloc: Global, count: usize) -> Option<usize> {
 
 #[test]
 fn reads_definitions_of_theories(rt: HostRuntime) {
-    theories_read_back(&rt, rt.alloc(), &DEFINITIONS);
+    reads_back(&rt, rt.alloc(), Form::TheoryDefinition, &DEFINITIONS);
 }
 
 #[test]
 fn reads_words_that_are_no_names(rt: HostRuntime) {
-    theories_read_back(&rt, rt.alloc(), &WITH_WORDS);
+    reads_back(&rt, rt.alloc(), Form::TheoryDefinition, &WITH_WORDS);
 }
 
 #[test]
 fn refuses_definitions_of_theories(rt: HostRuntime) {
-    theories_refuse(&rt, rt.alloc(), &NO_DEFINITIONS);
+    refuses(&rt, rt.alloc(), Form::TheoryDefinition, &NO_DEFINITIONS);
 }
 
 #[test]
 fn refuses_word_operators_in_theories(rt: HostRuntime) {
-    theories_refuse(&rt, rt.alloc(), &WITH_WORD_OPERATORS);
+    refuses(
+        &rt,
+        rt.alloc(),
+        Form::TheoryDefinition,
+        &WITH_WORD_OPERATORS,
+    );
 }
 
 #[test]
 fn reads_definitions_of_programs(rt: HostRuntime) {
-    programs_read_back(&rt, rt.alloc(), &DEFINITIONS);
+    reads_back(&rt, rt.alloc(), Form::ProgramDefinition, &DEFINITIONS);
 }
 
 #[test]
 fn reads_word_operators_in_programs(rt: HostRuntime) {
-    programs_read_back(&rt, rt.alloc(), &WITH_WORD_OPERATORS);
+    reads_back(
+        &rt,
+        rt.alloc(),
+        Form::ProgramDefinition,
+        &WITH_WORD_OPERATORS,
+    );
 }
 
 #[test]
 fn refuses_definitions_of_programs(rt: HostRuntime) {
-    programs_refuse(&rt, rt.alloc(), &NO_DEFINITIONS);
+    refuses(&rt, rt.alloc(), Form::ProgramDefinition, &NO_DEFINITIONS);
 }
 
 #[test]
 fn refuses_words_that_are_no_names(rt: HostRuntime) {
-    programs_refuse(&rt, rt.alloc(), &WITH_WORDS);
+    refuses(&rt, rt.alloc(), Form::ProgramDefinition, &WITH_WORDS);
 }
 
 #[test]
 fn reads_counts(rt: HostRuntime) {
-    counts_read_back(&rt, rt.alloc(), &COUNTS);
+    reads_back(&rt, rt.alloc(), Form::First, &COUNTS);
 }
 
 #[test]
 fn refuses_counts(rt: HostRuntime) {
-    are_no_counts(&rt, rt.alloc(), &NO_COUNTS);
+    refuses(&rt, rt.alloc(), Form::First, &NO_COUNTS);
 }
 
 #[test]
 fn reads_paths(rt: HostRuntime) {
-    paths_read_back(&rt, rt.alloc(), &PATHS);
+    reads_back(&rt, rt.alloc(), Form::Path, &PATHS);
 }
 
 #[test]
 fn refuses_paths(rt: HostRuntime) {
-    are_no_paths(&rt, rt.alloc(), &NO_PATHS);
+    refuses(&rt, rt.alloc(), Form::Path, &NO_PATHS);
 }
 
 // No clause says that memory suffices.

@@ -1,171 +1,154 @@
-//! What the tests build. A term may be given as it was built, so that a test has no error of its own to hand on.
-use kid_sorting::SortFault;
-use kid_term::{Head, Literal, NumberOp, Op, Term, Terms};
-use kid_value::{Names, Sort, Text, Texts};
+//! What the tests build. An argument is a word: a number, `'red`, which is a tag, or a name. A term stands in a list of its own, which
+//! is dropped by one call, where a term opens all its forms. `None` is want of memory.
+use crate::sort_words::sorts;
+use kid_term::{Binder, BoxedTerm, Def, Head, Literal, NumberOp, Op, Term, Terms};
+use kid_value::{Names, Sort, Text};
 use std::alloc::Global;
 
-/// A sort of which others are made.
-#[derive(Clone, Copy)]
-pub enum Part {
-    Never,
-    Bool,
-    Int(i64, i64),
+pub fn text(alloc: Global, word: &[u8]) -> Option<Text> {
+    Text::from_slice(alloc, word).ok()
 }
 
-/// A sort that is made of such parts.
-#[derive(Clone, Copy)]
-pub enum Made {
-    One(Part),
-    Pair(Part, Part),
-    Set(Part),
-    Seq(Part, u32),
-    SetSeq(Part, u32),
-    SeqSeq(Part, u32, u32),
-    Map(Part, Part),
-    SetMap(Part, Part),
-    /// Sequences of sequences, as deep as sorts may be.
-    Deep,
-}
-
-pub fn text(alloc: Global, word: &str) -> Result<Text, SortFault> {
-    Ok(Text::from_slice(alloc, word.as_bytes())?)
-}
-
-/// The numbers that stand before the names.
-#[derive(Clone, Copy)]
-pub enum Numbers {
-    No,
-    One(i64),
-    Two(i64, i64),
-}
-
-fn sort_of_part(it: Part) -> Sort {
-    match it {
-        Part::Never => Sort::Never,
-        Part::Bool => Sort::Bool,
-        Part::Int(lo, hi) => Sort::Int { lo, hi },
+fn add(alloc: Global, names: &mut Names, word: &str, sort: &str) -> Option<()> {
+    let mut sorts = sorts(alloc, sort)?;
+    let name = text(alloc, word.as_bytes())?;
+    match sorts.pop() {
+        Some(sort) => names.push(name, sort).ok(),
+        None => None,
     }
-}
-
-fn set_of(alloc: Global, member: Part) -> Result<Sort, SortFault> {
-    Ok(Sort::Set(Box::new(alloc, sort_of_part(member))?))
-}
-
-fn seq_of(alloc: Global, item: Sort, bound: u32) -> Result<Sort, SortFault> {
-    Ok(Sort::Seq {
-        item: Box::new(alloc, item)?,
-        bound,
-    })
-}
-
-fn map_of(alloc: Global, key: Part, value: Sort) -> Result<Sort, SortFault> {
-    let value = Box::new(alloc, value)?;
-    Ok(Sort::Map(Box::new(alloc, sort_of_part(key))?, value))
-}
-
-fn pair_of(alloc: Global, first: Part, second: Part) -> Result<Sort, SortFault> {
-    let first = Box::new(alloc, sort_of_part(first))?;
-    Ok(Sort::Pair(first, Box::new(alloc, sort_of_part(second))?))
-}
-
-fn deep(alloc: Global) -> Result<Sort, SortFault> {
-    let mut sort = Sort::Bool;
-    for _ in 0..7u32 {
-        sort = seq_of(alloc, sort, 1)?;
-    }
-    Ok(sort)
-}
-
-/// The sort that is made so.
-pub fn sort(alloc: Global, made: Made) -> Result<Sort, SortFault> {
-    match made {
-        Made::One(it) => Ok(sort_of_part(it)),
-        Made::Pair(first, second) => pair_of(alloc, first, second),
-        Made::Set(member) => set_of(alloc, member),
-        Made::Seq(item, bound) => seq_of(alloc, sort_of_part(item), bound),
-        Made::SetSeq(member, bound) => seq_of(alloc, set_of(alloc, member)?, bound),
-        Made::SeqSeq(item, most, bound) => {
-            seq_of(alloc, seq_of(alloc, sort_of_part(item), most)?, bound)
-        }
-        Made::Map(key, value) => map_of(alloc, key, sort_of_part(value)),
-        Made::SetMap(key, member) => map_of(alloc, key, set_of(alloc, member)?),
-        Made::Deep => deep(alloc),
-    }
-}
-
-fn add(alloc: Global, names: &mut Names, word: &str, made: Made) -> Result<(), SortFault> {
-    let sort = sort(alloc, made)?;
-    names.push(text(alloc, word)?, sort)?;
-    Ok(())
 }
 
 /// Names with their sorts.
-pub fn names(alloc: Global, rows: &[(&str, Made)]) -> Result<Names, SortFault> {
+pub fn names(alloc: Global, rows: &[(&str, &str)]) -> Option<Names> {
     let mut names = Names::new(alloc);
     for row in rows {
-        let (word, made) = *row;
-        add(alloc, &mut names, word, made)?;
+        add(alloc, &mut names, row.0, row.1)?;
     }
-    Ok(names)
+    Some(names)
 }
 
-pub fn var(alloc: Global, word: &str) -> Result<Term, SortFault> {
-    Ok(Term::Var(text(alloc, word)?))
+fn put(terms: &mut Vec<Term>, term: Term) -> Option<()> {
+    terms.push(term).ok()
 }
 
-pub fn number(n: i64) -> Term {
-    Term::Lit(Literal::Int(n))
-}
-
-pub fn tag(alloc: Global, word: &str) -> Result<Term, SortFault> {
-    Ok(Term::Lit(Literal::Tag(text(alloc, word)?)))
-}
-
-/// The enum of these names.
-pub fn enum_of(alloc: Global, words: &[&str]) -> Result<Sort, SortFault> {
-    let mut names = Texts::new(alloc);
-    for word in words {
-        names.push(text(alloc, word)?)?;
-    }
-    Ok(Sort::Enum(names))
-}
-
-fn push_numbers(terms: &mut Terms, numbers: Numbers) -> Result<(), SortFault> {
-    match numbers {
-        Numbers::No => Ok(()),
-        Numbers::One(lo) => Ok(terms.push(number(lo))?),
-        Numbers::Two(lo, count) => {
-            terms.push(number(lo))?;
-            Ok(terms.push(number(count))?)
-        }
+pub fn push(terms: &mut Vec<Term>, term: Option<Term>) -> Option<()> {
+    match term {
+        Some(term) => put(terms, term),
+        None => None,
     }
 }
 
-/// The operator at numbers and then at names, each of one letter.
-pub fn applied(alloc: Global, op: Op, numbers: Numbers, letters: &str) -> Result<Term, SortFault> {
-    let mut terms = Terms::new(alloc);
-    push_numbers(&mut terms, numbers)?;
-    for byte in letters.as_bytes() {
-        terms.push(Term::Var(Text::from_slice(alloc, &[*byte])?))?;
+fn var(name: Option<Text>) -> Option<Term> {
+    Some(Term::Var(name?))
+}
+
+pub fn tag(name: Option<Text>) -> Option<Term> {
+    Some(Term::Lit(Literal::Tag(name?)))
+}
+
+fn worded(alloc: Global, word: &[u8]) -> Option<Term> {
+    match word.split_first() {
+        Some((b'\'', name)) => tag(text(alloc, name)),
+        _ => var(text(alloc, word)),
     }
-    Ok(Term::App(Head::Op(op), terms))
 }
 
-pub fn push(terms: &mut Terms, term: Result<Term, SortFault>) -> Result<(), SortFault> {
-    Ok(terms.push(term?)?)
+fn argument(alloc: Global, word: &str) -> Option<Term> {
+    match word.parse::<i64>() {
+        Ok(n) => Some(Term::Lit(Literal::Int(n))),
+        Err(_) => worded(alloc, word.as_bytes()),
+    }
 }
 
-pub fn one(alloc: Global, head: Head, a: Result<Term, SortFault>) -> Result<Term, SortFault> {
-    let mut args = Terms::new(alloc);
-    push(&mut args, a)?;
-    Ok(Term::App(head, args))
+/// The arguments, one a word.
+pub fn arguments(alloc: Global, words: &str) -> Option<Vec<Term>> {
+    let mut terms = Vec::new(alloc);
+    for word in words.split_ascii_whitespace() {
+        push(&mut terms, argument(alloc, word))?;
+    }
+    Some(terms)
+}
+
+/// The head at the arguments.
+pub fn headed(alloc: Global, head: Head, args: Vec<Term>) -> Option<Vec<Term>> {
+    let mut terms = Vec::new(alloc);
+    put(&mut terms, Term::App(head, Terms::from_vec(args)))?;
+    Some(terms)
+}
+
+/// The operator at the arguments.
+pub fn applied(alloc: Global, op: Op, words: &str) -> Option<Vec<Term>> {
+    headed(alloc, Head::Op(op), arguments(alloc, words)?)
+}
+
+/// The call of a definition at the arguments.
+pub fn call(alloc: Global, name: &str, words: &str) -> Option<Vec<Term>> {
+    let args = arguments(alloc, words)?;
+    let name = text(alloc, name.as_bytes())?;
+    headed(alloc, Head::Call(name), args)
+}
+
+/// The cast of the argument.
+pub fn cast(alloc: Global, to: &str, words: &str) -> Option<Vec<Term>> {
+    let args = arguments(alloc, words)?;
+    let mut sorts = sorts(alloc, to)?;
+    match sorts.pop() {
+        Some(sort) => headed(alloc, Head::Cast(sort), args),
+        None => None,
+    }
+}
+
+fn boxed(alloc: Global, term: Option<Term>) -> Option<BoxedTerm> {
+    BoxedTerm::new(alloc, term?).ok()
+}
+
+/// The binder of a name over a set, with a body: the last two of the terms.
+pub fn bind(alloc: Global, binder: Binder, word: &str, mut parts: Vec<Term>) -> Option<Vec<Term>> {
+    let body = boxed(alloc, parts.pop())?;
+    let set = boxed(alloc, parts.pop())?;
+    let name = text(alloc, word.as_bytes())?;
+    put(&mut parts, Term::Bind(binder, name, set, body))?;
+    Some(parts)
 }
 
 /// 1 below so many negations.
-pub fn negations(alloc: Global, count: u32) -> Result<Term, SortFault> {
-    let mut term = number(1);
+pub fn negations(alloc: Global, count: u32) -> Option<Vec<Term>> {
+    let mut terms = arguments(alloc, "1")?;
     for _ in 0..count {
-        term = one(alloc, Head::Op(Op::Number(NumberOp::Neg)), Ok(term))?;
+        terms = headed(alloc, Head::Op(Op::Number(NumberOp::Neg)), terms)?;
     }
-    Ok(term)
+    Some(terms)
+}
+
+fn defined(name: Text, parameters: Names, sort: Sort, body: Option<Term>) -> Option<Def> {
+    match body {
+        Some(body) => Some(Def {
+            name,
+            parameters,
+            sort,
+            body,
+        }),
+        None => None,
+    }
+}
+
+/// The word, or 1 below so many negations where there is none.
+pub fn term(alloc: Global, word: &str, count: u32) -> Option<Vec<Term>> {
+    if word.is_empty() {
+        negations(alloc, count)
+    } else {
+        arguments(alloc, word)
+    }
+}
+
+/// The definition of f over x, with the sorts of x and of f and a body that `term` makes.
+pub fn definition(alloc: Global, of_x: &str, of_f: &str, word: &str, count: u32) -> Option<Def> {
+    let name = text(alloc, b"f")?;
+    let parameters = names(alloc, &[("x", of_x)])?;
+    let mut sorts = sorts(alloc, of_f)?;
+    let mut bodies = term(alloc, word, count)?;
+    match sorts.pop() {
+        Some(sort) => defined(name, parameters, sort, bodies.pop()),
+        None => None,
+    }
 }

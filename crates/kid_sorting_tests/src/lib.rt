@@ -10,6 +10,8 @@ mod operators;
 #[cfg(test)]
 mod over;
 #[cfg(test)]
+mod sort_words;
+#[cfg(test)]
 mod terms;
 #[cfg(test)]
 mod words;

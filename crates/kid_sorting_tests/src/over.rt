@@ -1,105 +1,150 @@
 //! Terms over a table of names, and the sorts or faults that they have.
-use crate::built::{Made, Numbers, applied, names, var};
+ghost use Rattle.std.specs.Prelude.{◌≡◌, ◌&&◌, true};
+ghost use Rattle.kid_value.specs.SortOrder.{is_subsort};
+ghost use Rattle.kid_value.specs.SortView.{plain_sort};
+
+use crate::built::{applied, arguments};
+use crate::sort_words::sorts;
 use kid_sorting::{SortFault, sort_over};
-use kid_term::{Op, Term, WordOp};
+use kid_term::{Op, Term};
 use kid_value::{Names, Sort, subsort};
 use std::alloc::Global;
 use std::process::Abort;
 
+/// Whether each sort is below the other.
+fn is(found: &Sort, want: &Sort) -> bool
+    ensures { result ≡ true → (is_subsort (plain_sort found.now) (plain_sort want.now) && is_subsort (plain_sort want.now) (plain_sort found.now)) ≡ true }
+{
+    subsort(found, want) && subsort(want, found)
+}
+
+/// Whether these are two sorts, and one.
+pub fn are_one(sorts: &[Sort]) -> bool {
+    match sorts {
+        [want, found] => is(found, want),
+        _ => false,
+    }
+}
+
 /// The sort of a term over no definitions. With no clause, so that no proof above opens the definition of least sorts.
-pub fn sorted(alloc: Global, names: &Names, term: &Term) -> Result<Sort, SortFault> {
+fn sorted(alloc: Global, names: &Names, term: &Term) -> Result<Sort, SortFault> {
     sort_over(alloc, &[], names.items(), term)
 }
 
-fn has_sort(
-    alloc: Global,
-    rows: &[(&str, Made)],
-    term: &Term,
-    want: &str,
-) -> Result<bool, SortFault> {
-    let names = names(alloc, rows)?;
-    let found = sorted(alloc, &names, term)?;
-    let wanted = sorted(alloc, &names, &var(alloc, want)?)?;
-    Ok(subsort(&found, &wanted) && subsort(&wanted, &found))
-}
-
-// whether the term has the sort of the name `want`
-fn gives(alloc: Global, rows: &[(&str, Made)], term: Result<Term, SortFault>, want: &str) -> bool {
-    match term {
-        Ok(term) => matches!(has_sort(alloc, rows, &term, want), Ok(true)),
-        Err(_) => false,
+/// Puts the sort that was found.
+pub fn put_sort(sorts: &mut Vec<Sort>, found: Result<Sort, SortFault>) -> Result<(), SortFault> {
+    match found {
+        Ok(sort) => if sorts.push(sort).is_ok() {
+            Ok(())
+        } else {
+            Err(SortFault::Memory)
+        },
+        Err(fault) => Err(fault),
     }
 }
 
-fn fault_of(
+/// Puts the sort of a term that was built.
+pub fn put_found(
     alloc: Global,
-    rows: &[(&str, Made)],
-    term: &Term,
-) -> Result<Option<SortFault>, SortFault> {
-    let names = names(alloc, rows)?;
-    Ok(sorted(alloc, &names, term).err())
+    names: &Option<Names>,
+    terms: &Option<Vec<Term>>,
+    sorts: &mut Vec<Sort>,
+) -> Result<(), SortFault> {
+    match (names, terms) {
+        (Some(names), Some(terms)) => match terms.as_slice() {
+            [term] => put_sort(sorts, sorted(alloc, names, term)),
+            _ => Err(SortFault::Memory),
+        },
+        _ => Err(SortFault::Memory),
+    }
 }
 
-// whether the term was built and has this fault
-fn fails(
+// whether the term has the sort of the name
+fn gives(
     alloc: Global,
-    rows: &[(&str, Made)],
-    term: Result<Term, SortFault>,
+    names: &Option<Names>,
+    terms: &Option<Vec<Term>>,
+    name: &Option<Vec<Term>>,
+) -> Result<bool, SortFault> {
+    let mut sorts = Vec::new(alloc);
+    put_found(alloc, names, name, &mut sorts)?;
+    put_found(alloc, names, terms, &mut sorts)?;
+    Ok(are_one(&sorts))
+}
+
+/// Whether the term has the sort.
+pub fn has_sort(
+    alloc: Global,
+    names: &Option<Names>,
+    terms: &Option<Vec<Term>>,
+    sort: &str,
+) -> bool {
+    match sorts(alloc, sort) {
+        Some(mut sorts) => put_found(alloc, names, terms, &mut sorts).is_ok() && are_one(&sorts),
+        None => false,
+    }
+}
+
+/// Whether the term has the fault.
+pub fn fails(
+    alloc: Global,
+    names: &Option<Names>,
+    terms: &Option<Vec<Term>>,
     want: SortFault,
 ) -> bool {
-    match term {
-        Ok(term) => matches!(fault_of(alloc, rows, &term), Ok(found) if found == Some(want)),
-        Err(_) => false,
-    }
+    let mut sorts = Vec::new(alloc);
+    put_found(alloc, names, terms, &mut sorts) == Err(want)
 }
 
-/// Each operator at names of one letter has the sort of the last name.
-pub fn sorts(rt: &impl Abort, alloc: Global, letters: &[(&str, Made)], rows: &[(Op, &str, &str)]) {
+fn is_given(alloc: Global, names: &Option<Names>, op: Op, args: &str, want: &str) -> bool {
+    let term = applied(alloc, op, args);
+    matches!(
+        gives(alloc, names, &term, &arguments(alloc, want)),
+        Ok(true)
+    )
+}
+
+/// Each operator at its arguments has the sort of the last name.
+pub fn sorts_all(rt: &impl Abort, alloc: Global, names: &Option<Names>, rows: &[(Op, &str, &str)]) {
     for row in rows {
         let (op, args, want) = *row;
-        let term = applied(alloc, op, Numbers::No, args);
-        assert!(rt; gives(alloc, letters, term, want), "at {args} {want}");
+        assert!(rt; is_given(alloc, names, op, args, want), "at {args} {want}");
     }
 }
 
-/// Each operator at names of one letter has this fault.
-pub fn refuses(
+fn is_sorted(alloc: Global, names: &Option<Names>, op: Op, args: &str, sort: &str) -> bool {
+    has_sort(alloc, names, &applied(alloc, op, args), sort)
+}
+
+/// Each operator at its arguments has this sort.
+pub fn spells_all(
     rt: &impl Abort,
     alloc: Global,
-    letters: &[(&str, Made)],
+    names: &Option<Names>,
+    rows: &[(Op, &str, &str)],
+) {
+    for row in rows {
+        let (op, args, sort) = *row;
+        assert!(rt; is_sorted(alloc, names, op, args, sort), "at {args} {sort}");
+    }
+}
+
+fn is_refused(alloc: Global, names: &Option<Names>, op: Op, args: &str, want: SortFault) -> bool {
+    fails(alloc, names, &applied(alloc, op, args), want)
+}
+
+/// Each operator at its arguments has this fault.
+pub fn refuses_all(
+    rt: &impl Abort,
+    alloc: Global,
+    names: &Option<Names>,
     rows: &[(Op, &str, SortFault)],
 ) {
     for row in rows {
         let (op, args, want) = *row;
-        let term = applied(alloc, op, Numbers::No, args);
-        assert!(rt; fails(alloc, letters, term, want), "at {args} {want:?}");
-    }
-}
-
-/// Each operator at numbers and then at names of one letter has the sort of the last name.
-pub fn sorts_words(
-    rt: &impl Abort,
-    alloc: Global,
-    letters: &[(&str, Made)],
-    rows: &[(WordOp, Numbers, &str, &str)],
-) {
-    for row in rows {
-        let (op, numbers, args, want) = *row;
-        let term = applied(alloc, Op::Word(op), numbers, args);
-        assert!(rt; gives(alloc, letters, term, want), "at {args} {want}");
-    }
-}
-
-/// Each operator at numbers and then at names of one letter has this fault.
-pub fn refuses_words(
-    rt: &impl Abort,
-    alloc: Global,
-    letters: &[(&str, Made)],
-    rows: &[(WordOp, Numbers, &str, SortFault)],
-) {
-    for row in rows {
-        let (op, numbers, args, want) = *row;
-        let term = applied(alloc, Op::Word(op), numbers, args);
-        assert!(rt; fails(alloc, letters, term, want), "at {args} {want:?}");
+        assert!(rt;
+            is_refused(alloc, names, op, args, want),
+            "at {args} {want:?}"
+        );
     }
 }

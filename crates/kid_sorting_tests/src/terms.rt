@@ -1,133 +1,81 @@
 //! Terms with binders, calls and casts, and the limits of terms.
 use crate::built::{
-    Made, Part, enum_of, names, negations, number, one, push, sort, tag, text, var,
+    arguments, bind, call, cast, definition, headed, names, negations, push, tag, text,
 };
-use crate::over::sorted;
+use crate::over::{fails, has_sort, put_found, put_sort, refuses_all, spells_all};
+use crate::sort_words::sorts;
 use kid_sorting::{Signature, SortFault, sort_of, sort_over};
-use kid_term::{Binder, BoxedTerm, Def, Head, Literal, LogicOp, NumberOp, Op, SetOp, Term, Terms};
-use kid_value::{Names, Sort, Text, subsort};
+use kid_term::{Binder, Def, Head, LogicOp, NumberOp, Op, SetOp, Term};
+use kid_value::{Names, Sort, Text};
 use std::alloc::Global;
 use std::process::Abort;
 
-fn two(
-    alloc: Global,
-    op: NumberOp,
-    a: Result<Term, SortFault>,
-    b: Result<Term, SortFault>,
-) -> Result<Term, SortFault> {
-    let mut args = Terms::new(alloc);
-    push(&mut args, a)?;
-    push(&mut args, b)?;
-    Ok(Term::App(Head::Op(Op::Number(op)), args))
+fn add_definition(signature: &mut Signature, definition: Option<Def>) -> Option<()> {
+    signature.add_definition(definition?).ok()
 }
 
-fn call(alloc: Global, name: &str, a: Result<Term, SortFault>) -> Result<Term, SortFault> {
-    one(alloc, Head::Call(text(alloc, name)?), a)
-}
-
-fn bind(
-    alloc: Global,
-    binder: Binder,
-    word: &str,
-    set: &str,
-    body: Result<Term, SortFault>,
-) -> Result<Term, SortFault> {
-    let body = BoxedTerm::new(alloc, body?)?;
-    let set = BoxedTerm::new(alloc, var(alloc, set)?)?;
-    Ok(Term::Bind(binder, text(alloc, word)?, set, body))
-}
-
-const DIGITS: Made = Made::One(Part::Int(0, 9));
-
-const FEW: Made = Made::Set(Part::Int(1, 3));
-
-const PARAMETERS: [(&str, Made); 1] = [("x", DIGITS)];
-
-// (def f ((x (int 0 9))) (int 0 9) x)
-fn definition(alloc: Global) -> Result<Def, SortFault> {
-    let name = text(alloc, "f")?;
-    let body = var(alloc, "x")?;
-    let parameters = names(alloc, &PARAMETERS)?;
-    Ok(Def {
-        name,
-        parameters,
-        sort: Sort::Int { lo: 0, hi: 9 },
-        body,
-    })
-}
-
-fn fill(alloc: Global, signature: &mut Signature) -> Result<(), SortFault> {
-    signature.add_definition(definition(alloc)?)?;
-    let few = sort(alloc, FEW)?;
-    signature.add_input(text(alloc, "s")?, few)?;
-    Ok(())
-}
-
-fn signature(alloc: Global) -> Result<Signature, SortFault> {
-    let mut signature = Signature::new(alloc);
-    fill(alloc, &mut signature)?;
-    Ok(signature)
-}
-
-// s is a set of numbers from 1 to 3, w one of 17 numbers, and p a truth value
-const KNOWN: [(&str, Made); 3] = [
-    ("s", FEW),
-    ("w", Made::Set(Part::Int(1, 17))),
-    ("p", Made::One(Part::Bool)),
-];
-
-fn known(alloc: Global) -> Result<Names, SortFault> {
-    names(alloc, &KNOWN)
-}
-
-fn gives_digits(alloc: Global, signature: &Signature, word: &str) -> Result<bool, SortFault> {
-    let name = text(alloc, word)?;
-    Ok(matches!(
-        signature.find_definition(&name),
-        Some(Def {
-            sort: Sort::Int { lo: 0, hi: 9 },
-            ..
-        })
-    ))
-}
-
-fn is_undefined(alloc: Global, signature: &Signature, word: &str) -> Result<bool, SortFault> {
-    let name = text(alloc, word)?;
-    Ok(signature.find_definition(&name).is_none())
-}
-
-fn are_named(alloc: Global, names: &[(Text, Sort)], word: &str) -> Result<bool, SortFault> {
-    let name = text(alloc, word)?;
-    for it in names {
-        if !it.0.same(&name) {
-            return Ok(false);
-        }
+fn add_input(alloc: Global, signature: &mut Signature, word: &str, sort: &str) -> Option<()> {
+    let mut sorts = sorts(alloc, sort)?;
+    let name = text(alloc, word.as_bytes())?;
+    match sorts.pop() {
+        Some(sort) => signature.add_input(name, sort).ok(),
+        None => None,
     }
-    Ok(true)
 }
 
-fn keeps(alloc: Global) -> Result<bool, SortFault> {
-    let signature = signature(alloc)?;
-    Ok(
-        matches!(gives_digits(alloc, &signature, "f"), Ok(true))
-            && matches!(is_undefined(alloc, &signature, "s"), Ok(true))
-            && matches!(are_named(alloc, signature.inputs(), "s"), Ok(true))
-            && signature.definitions().len() == 1
-            && signature.inputs().len() == 1,
-    )
+// (def f ((x (int 0 9))) (int 0 9) x), and an input s, which is a set of numbers from 1 to 3
+fn signature(alloc: Global) -> Option<Signature> {
+    let mut signature = Signature::new(alloc);
+    let definition = definition(alloc, "int 0 9", "int 0 9", "x", 0);
+    add_definition(&mut signature, definition)?;
+    add_input(alloc, &mut signature, "s", "set int 1 3")?;
+    Some(signature)
+}
+
+fn gives_digits(signature: &Signature, name: &Option<Text>) -> bool {
+    match name {
+        Some(name) => matches!(
+            signature.find_definition(name),
+            Some(Def {
+                sort: Sort::Int { lo: 0, hi: 9 },
+                ..
+            })
+        ),
+        None => false,
+    }
+}
+
+fn is_undefined(signature: &Signature, name: &Option<Text>) -> bool {
+    match name {
+        Some(name) => signature.find_definition(name).is_none(),
+        None => false,
+    }
+}
+
+fn is_input(signature: &Signature) -> bool {
+    match signature.inputs() {
+        [input] => input.0.is(b"s"),
+        _ => false,
+    }
+}
+
+fn keeps(alloc: Global, signature: &Option<Signature>) -> bool {
+    match signature {
+        Some(signature) => gives_digits(signature, &text(alloc, b"f"))
+            && is_undefined(signature, &text(alloc, b"s"))
+            && is_input(signature)
+            && signature.definitions().len() == 1,
+        None => false,
+    }
 }
 
 #[test]
 fn keeps_definitions_and_inputs(rt: HostRuntime) {
-    assert!(rt; matches!(keeps(rt.alloc()), Ok(true)));
+    assert!(rt; keeps(rt.alloc(), &signature(rt.alloc())));
 }
 
-// (sumof x s (mul x (f x)))
-fn sum(alloc: Global) -> Result<Term, SortFault> {
-    let value = call(alloc, "f", var(alloc, "x"));
-    let product = two(alloc, NumberOp::Mul, var(alloc, "x"), value);
-    bind(alloc, Binder::SumOf, "x", "s", product)
-}
+// s is a set of numbers from 1 to 3, w one of 17 numbers, and p a truth value
+const KNOWN: [(&str, &str); 3] = [("s", "set int 1 3"), ("w", "set int 1 17"), ("p", "bool")];
 
 // these two have no clause, so that no proof above opens the definition of least sorts
 fn by_signature(
@@ -148,92 +96,99 @@ fn by_parts(
     sort_over(alloc, signature.definitions(), names.items(), term)
 }
 
-fn sort_in_signature(alloc: Global, term: &Term) -> Result<Sort, SortFault> {
-    let signature = signature(alloc)?;
-    let names = known(alloc)?;
-    by_signature(alloc, &signature, &names, term)
+// puts the sort of a term in the signature, and then that over its parts
+fn put_both(
+    alloc: Global,
+    signature: &Option<Signature>,
+    names: &Option<Names>,
+    term: &Term,
+    sorts: &mut Vec<Sort>,
+) -> Result<(), SortFault> {
+    match (signature, names) {
+        (Some(signature), Some(names)) => {
+            put_sort(sorts, by_signature(alloc, signature, names, term))?;
+            put_sort(sorts, by_parts(alloc, signature, names, term))
+        }
+        _ => Err(SortFault::Memory),
+    }
 }
 
-fn sort_over_parts(alloc: Global, term: &Term) -> Result<Sort, SortFault> {
-    let signature = signature(alloc)?;
-    let names = known(alloc)?;
-    by_parts(alloc, &signature, &names, term)
+fn put_known(
+    alloc: Global,
+    terms: &Option<Vec<Term>>,
+    sorts: &mut Vec<Sort>,
+) -> Result<(), SortFault> {
+    match terms {
+        Some(terms) => match terms.as_slice() {
+            [term] => put_both(alloc, &signature(alloc), &names(alloc, &KNOWN), term, sorts),
+            _ => Err(SortFault::Memory),
+        },
+        None => Err(SortFault::Memory),
+    }
 }
 
-fn sums(alloc: Global) -> Result<bool, SortFault> {
-    let sum = sum(alloc)?;
-    Ok(
-        matches!(
-            sort_in_signature(alloc, &sum),
-            Ok(Sort::Int { lo: 0, hi: 81 })
-        ) && matches!(
-            sort_over_parts(alloc, &sum),
-            Ok(Sort::Int { lo: 0, hi: 81 })
-        ),
+fn are_sums(sorts: &[Sort]) -> bool {
+    matches!(
+        sorts,
+        [Sort::Int { lo: 0, hi: 81 }, Sort::Int { lo: 0, hi: 81 }]
     )
+}
+
+fn is_sum(alloc: Global, terms: &Option<Vec<Term>>) -> bool {
+    let mut sorts = Vec::new(alloc);
+    put_known(alloc, terms, &mut sorts).is_ok() && are_sums(&sorts)
+}
+
+// (sumof x s (mul x (f x)))
+fn sum(alloc: Global) -> Option<Vec<Term>> {
+    let mut factors = arguments(alloc, "x")?;
+    let mut values = call(alloc, "f", "x")?;
+    push(&mut factors, values.pop())?;
+    let mut products = headed(alloc, Head::Op(Op::Number(NumberOp::Mul)), factors)?;
+    let mut parts = arguments(alloc, "s")?;
+    push(&mut parts, products.pop())?;
+    bind(alloc, Binder::SumOf, "x", parts)
 }
 
 // at most three summands from 1 * 0 to 3 * 9
 #[test]
 fn sorts_a_sum(rt: HostRuntime) {
-    assert!(rt; matches!(sums(rt.alloc()), Ok(true)));
+    assert!(rt; is_sum(rt.alloc(), &sum(rt.alloc())));
 }
 
-const NUMBERS: [(&str, Made); 3] = [
-    ("a", Made::One(Part::Int(-7, 7))),
-    ("b", Made::One(Part::Int(2, 3))),
-    ("c", Made::One(Part::Int(-4, 3))),
-];
+const NUMBERS: [(&str, &str); 3] = [("a", "int -7 7"), ("b", "int 2 3"), ("c", "int -4 3")];
 
-fn bounds(alloc: Global, op: NumberOp, right: &str) -> Result<Sort, SortFault> {
-    let names = names(alloc, &NUMBERS)?;
-    let term = two(alloc, op, var(alloc, "a"), var(alloc, right))?;
-    sorted(alloc, &names, &term)
-}
-
-fn is_bounded(alloc: Global, op: NumberOp, right: &str, low: i64, high: i64) -> bool {
-    match bounds(alloc, op, right) {
-        Ok(Sort::Int { lo, hi }) => lo == low && hi == high,
-        _ => false,
-    }
-}
-
-fn bounds_all(rt: &impl Abort, alloc: Global, rows: &[(NumberOp, &str, i64, i64)]) {
-    for row in rows {
-        let (op, right, low, high) = *row;
-        assert!(rt; is_bounded(alloc, op, right, low, high), "at {low}");
-    }
-}
-
-const BOUNDS: [(NumberOp, &str, i64, i64); 10] = [
-    (NumberOp::Add, "b", -5, 10),
-    (NumberOp::Sub, "b", -10, 5),
-    (NumberOp::Mul, "b", -21, 21),
-    (NumberOp::Mul, "c", -28, 28),
-    (NumberOp::Div, "b", -4, 3),
-    (NumberOp::Div, "c", -7, 7),
-    (NumberOp::Mod, "b", 0, 2),
-    (NumberOp::Mod, "c", 0, 3),
-    (NumberOp::Min, "b", -7, 3),
-    (NumberOp::Max, "b", 2, 7),
+const BOUNDS: [(Op, &str, &str); 10] = [
+    (Op::Number(NumberOp::Add), "a b", "int -5 10"),
+    (Op::Number(NumberOp::Sub), "a b", "int -10 5"),
+    (Op::Number(NumberOp::Mul), "a b", "int -21 21"),
+    (Op::Number(NumberOp::Mul), "a c", "int -28 28"),
+    (Op::Number(NumberOp::Div), "a b", "int -4 3"),
+    (Op::Number(NumberOp::Div), "a c", "int -7 7"),
+    (Op::Number(NumberOp::Mod), "a b", "int 0 2"),
+    (Op::Number(NumberOp::Mod), "a c", "int 0 3"),
+    (Op::Number(NumberOp::Min), "a b", "int -7 3"),
+    (Op::Number(NumberOp::Max), "a b", "int 2 7"),
 ];
 
 #[test]
 fn bounds_each_operator(rt: HostRuntime) {
-    bounds_all(&rt, rt.alloc(), &BOUNDS);
+    spells_all(&rt, rt.alloc(), &names(rt.alloc(), &NUMBERS), &BOUNDS);
 }
 
-fn has_fault(alloc: Global, count: u32, want: Option<SortFault>) -> bool {
-    match negations(alloc, count) {
-        Ok(term) => sorted(alloc, &Names::new(alloc), &term).err() == want,
-        Err(_) => false,
-    }
+fn none(alloc: Global) -> Option<Names> {
+    Some(Names::new(alloc))
+}
+
+fn fault_of(alloc: Global, count: u32) -> Option<SortFault> {
+    let mut sorts = Vec::new(alloc);
+    put_found(alloc, &none(alloc), &negations(alloc, count), &mut sorts).err()
 }
 
 fn counts_all(rt: &impl Abort, alloc: Global, rows: &[(u32, Option<SortFault>)]) {
     for row in rows {
         let (count, want) = *row;
-        assert!(rt; has_fault(alloc, count, want), "at {count}");
+        assert!(rt; fault_of(alloc, count) == want, "at {count}");
     }
 }
 
@@ -249,33 +204,41 @@ fn counts_nodes_before_depth(rt: HostRuntime) {
     counts_all(&rt, rt.alloc(), &SIZES);
 }
 
-// what is built has no other fault than want of memory
-fn fails(alloc: Global, term: Result<Term, SortFault>, want: SortFault) -> bool {
-    match term {
-        Ok(term) => sort_in_signature(alloc, &term).err() == Some(want),
-        Err(_) => false,
-    }
+fn fails_in_signature(alloc: Global, terms: &Option<Vec<Term>>, want: SortFault) -> bool {
+    let mut sorts = Vec::new(alloc);
+    put_known(alloc, terms, &mut sorts) == Err(want)
 }
 
-fn binders_fail(rt: &impl Abort, alloc: Global, rows: &[(Binder, &str, &str, &str, SortFault)]) {
+fn bound(alloc: Global, binder: Binder, word: &str, parts: &str) -> Option<Vec<Term>> {
+    bind(alloc, binder, word, arguments(alloc, parts)?)
+}
+
+fn bound_fails(alloc: Global, binder: Binder, word: &str, parts: &str, want: SortFault) -> bool {
+    fails_in_signature(alloc, &bound(alloc, binder, word, parts), want)
+}
+
+fn binders_fail(rt: &impl Abort, alloc: Global, rows: &[(Binder, &str, &str, SortFault)]) {
     for row in rows {
-        let (binder, word, set, body, want) = *row;
-        let term = bind(alloc, binder, word, set, var(alloc, body));
-        assert!(rt; fails(alloc, term, want), "at {word} {set} {body}");
+        let (binder, word, parts, want) = *row;
+        assert!(rt;
+            bound_fails(alloc, binder, word, parts, want),
+            "at {word} {parts}"
+        );
     }
 }
 
-const BINDERS: [(Binder, &str, &str, &str, SortFault); 8] = [
+// a binder, its name, its set and its body
+const BINDERS: [(Binder, &str, &str, SortFault); 8] = [
     // a set is asked for before the body is looked at
-    (Binder::All, "x", "p", "q", SortFault::Kind),
-    (Binder::All, "x", "q", "p", SortFault::Unknown),
-    (Binder::All, "x", "s", "q", SortFault::Unknown),
-    (Binder::All, "x", "s", "x", SortFault::Kind),
+    (Binder::All, "x", "p q", SortFault::Kind),
+    (Binder::All, "x", "q p", SortFault::Unknown),
+    (Binder::All, "x", "s q", SortFault::Unknown),
+    (Binder::All, "x", "s x", SortFault::Kind),
     // the sets of 17 numbers are too many
-    (Binder::Image, "s", "s", "w", SortFault::Bounds),
-    (Binder::All, "s", "s", "q", SortFault::Unknown),
-    (Binder::All, "p", "s", "p", SortFault::Kind),
-    (Binder::Image, "s", "w", "s", SortFault::Shadow),
+    (Binder::Image, "s", "s w", SortFault::Bounds),
+    (Binder::All, "s", "s q", SortFault::Unknown),
+    (Binder::All, "p", "s p", SortFault::Kind),
+    (Binder::Image, "s", "w s", SortFault::Shadow),
 ];
 
 #[test]
@@ -283,104 +246,70 @@ fn tells_the_first_fault_of_a_binder(rt: HostRuntime) {
     binders_fail(&rt, rt.alloc(), &BINDERS);
 }
 
-// (and p)
-fn conjunction(alloc: Global) -> Result<Term, SortFault> {
-    one(alloc, Head::Op(Op::Logic(LogicOp::And)), var(alloc, "p"))
+#[test]
+fn tells_the_fault_of_a_call(rt: HostRuntime) {
+    let known = call(rt.alloc(), "f", "10");
+    assert!(rt; fails_in_signature(rt.alloc(), &known, SortFault::Kind));
+    let unknown = call(rt.alloc(), "g", "9");
+    assert!(rt; fails_in_signature(rt.alloc(), &unknown, SortFault::Unknown));
 }
 
-// a cast to sets of no value
-fn cast(alloc: Global) -> Result<Term, SortFault> {
-    let sort = sort(alloc, Made::Set(Part::Never))?;
-    one(alloc, Head::Cast(sort), Ok(number(9)))
-}
-
-fn beyond(alloc: Global) -> Result<Term, SortFault> {
-    let most = number(4611686018427387904);
-    two(alloc, NumberOp::Add, Ok(most), Ok(number(1)))
-}
+const FAULTS: [(Op, &str, SortFault); 4] = [
+    (Op::Logic(LogicOp::And), "p", SortFault::Kind),
+    (
+        Op::Number(NumberOp::Add),
+        "4611686018427387904 1",
+        SortFault::Bounds,
+    ),
+    (Op::Number(NumberOp::Lt), "'a 'b", SortFault::Kind),
+    (Op::Number(NumberOp::Add), "'a 1", SortFault::Kind),
+];
 
 #[test]
-fn tells_the_fault_of_a_head(rt: HostRuntime) {
-    let alloc = rt.alloc();
-    assert!(rt; fails(alloc, call(alloc, "f", Ok(number(10))), SortFault::Kind));
-    assert!(rt; fails(alloc, call(alloc, "g", Ok(number(9))), SortFault::Unknown));
-    assert!(rt; fails(alloc, conjunction(alloc), SortFault::Kind));
-    assert!(rt; fails(alloc, cast(alloc), SortFault::Bounds));
-    assert!(rt; fails(alloc, beyond(alloc), SortFault::Bounds));
+fn tells_the_fault_of_an_operator(rt: HostRuntime) {
+    refuses_all(&rt, rt.alloc(), &names(rt.alloc(), &KNOWN), &FAULTS);
 }
 
-// an operator at tags
-fn at_tags(alloc: Global, op: Op, words: &[&str]) -> Result<Term, SortFault> {
-    let mut args = Terms::new(alloc);
-    for word in words {
-        push(&mut args, tag(alloc, word))?;
-    }
-    Ok(Term::App(Head::Op(op), args))
+// sets of no value
+#[test]
+fn tells_the_fault_of_a_cast(rt: HostRuntime) {
+    let cast = cast(rt.alloc(), "set never", "9");
+    assert!(rt; fails(rt.alloc(), &none(rt.alloc()), &cast, SortFault::Bounds));
 }
 
-// the set of the tags whose names are one byte each, so many
-fn many_tags(alloc: Global, count: u8) -> Result<Term, SortFault> {
-    let mut args = Terms::new(alloc);
-    for byte in 0..count {
-        let name = Text::from_slice(alloc, &[byte])?;
-        args.push(Term::Lit(Literal::Tag(name)))?;
-    }
-    Ok(Term::App(Head::Op(Op::Set(SetOp::Set)), args))
-}
-
-fn is_enum(alloc: Global, sort: &Sort, words: &[&str]) -> bool {
-    match enum_of(alloc, words) {
-        Ok(wanted) => subsort(sort, &wanted) && subsort(&wanted, sort),
-        Err(_) => false,
-    }
-}
-
-fn has_enum(alloc: Global, term: Result<Term, SortFault>, words: &[&str]) -> bool {
-    match found(alloc, term) {
-        Ok(sort) => is_enum(alloc, &sort, words),
-        Err(_) => false,
-    }
-}
-
-fn has_enum_set(alloc: Global, term: Result<Term, SortFault>, words: &[&str]) -> bool {
-    match found(alloc, term) {
-        Ok(Sort::Set(element)) => is_enum(alloc, &element, words),
-        _ => false,
-    }
-}
-
-fn found(alloc: Global, term: Result<Term, SortFault>) -> Result<Sort, SortFault> {
-    sorted(alloc, &Names::new(alloc), &term?)
-}
+const TAGS: [(Op, &str, &str); 2] = [
+    (Op::Set(SetOp::Set), "'red 'blue 'red", "set blue|red"),
+    (Op::Logic(LogicOp::Eq), "'red 'blue", "bool"),
+];
 
 #[test]
 fn sorts_tags(rt: HostRuntime) {
-    let alloc = rt.alloc();
-    let equal = Op::Logic(LogicOp::Eq);
-    let set = Op::Set(SetOp::Set);
-    assert!(rt; has_enum(alloc, tag(alloc, "red"), &["red"]));
-    assert!(rt;
-        has_enum_set(
-            alloc,
-            at_tags(alloc, set, &["red", "blue", "red"]),
-            &["blue", "red"]
-        )
-    );
-    assert!(rt;
-        matches!(
-            found(alloc, at_tags(alloc, equal, &["red", "blue"])),
-            Ok(Sort::Bool)
-        )
-    );
-    let less = two(alloc, NumberOp::Lt, tag(alloc, "a"), tag(alloc, "b"));
-    assert!(rt; fails(alloc, less, SortFault::Kind));
-    let mixed = two(alloc, NumberOp::Add, tag(alloc, "a"), Ok(number(1)));
-    assert!(rt; fails(alloc, mixed, SortFault::Kind));
+    let tag = arguments(rt.alloc(), "'red");
+    assert!(rt; has_sort(rt.alloc(), &none(rt.alloc()), &tag, "red"));
+    spells_all(&rt, rt.alloc(), &none(rt.alloc()), &TAGS);
+}
+
+// the set of the tags whose names are one byte each, so many
+fn many_tags(alloc: Global, count: u8) -> Option<Vec<Term>> {
+    let mut args = Vec::new(alloc);
+    for byte in 0..count {
+        push(&mut args, tag(text(alloc, &[byte])))?;
+    }
+    headed(alloc, Head::Op(Op::Set(SetOp::Set)), args)
+}
+
+fn is_set(sorts: &[Sort]) -> bool {
+    matches!(sorts, [Sort::Set(_)])
+}
+
+fn many_are_sorted(alloc: Global, count: u8) -> Result<bool, SortFault> {
+    let mut sorts = Vec::new(alloc);
+    put_found(alloc, &none(alloc), &many_tags(alloc, count), &mut sorts)?;
+    Ok(is_set(&sorts))
 }
 
 #[test]
 fn sorts_at_most_64_tags(rt: HostRuntime) {
-    let alloc = rt.alloc();
-    assert!(rt; matches!(found(alloc, many_tags(alloc, 64)), Ok(Sort::Set(_))));
-    assert!(rt; fails(alloc, many_tags(alloc, 65), SortFault::Bounds));
+    assert!(rt; many_are_sorted(rt.alloc(), 64) == Ok(true));
+    assert!(rt; many_are_sorted(rt.alloc(), 65) == Err(SortFault::Bounds));
 }

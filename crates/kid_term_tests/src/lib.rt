@@ -4,9 +4,9 @@
 #[cfg(test)]
 mod definitions;
 #[cfg(test)]
-mod equal;
+mod depths;
 #[cfg(test)]
-mod large;
+mod equal;
 #[cfg(test)]
 mod names;
 #[cfg(test)]

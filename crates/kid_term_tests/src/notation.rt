@@ -1,30 +1,34 @@
 //! Terms from short texts. A character is a head, and what it takes follows it:
 //!
-//! - `x` and each other small letter: a name; `7` and each other digit: a number; `T` and `F`: the truth values; `'x`: the tag of
+//! - `x` and each other small letter: a name, and `.xy` a name of two letters; `7` and each other digit: a number; `T` and `F`: the truth values; `'x`: the tag of
 //!   that name; `E`: `(set)`;
 //! - `,ab`: `(pair a b)`; `&ab`: `(set a b)`; `;ab`: `(seq a b)`; `M`: `(map)`; `=abc`: `(put a b c)`;
 //! - `!a`: `(not a)`; `#a`: `(wcard a)`; `<ab`: `(le a b)`; `+ab`: `(add a b)`; `?abc`: `(if a b c)`;
 //! - `@fa`: the call `(f a)`; `$fab`: `(f a b)`; `:9a`: the cast of `a` to `(int 0 9)`;
-//! - `Axsb`, `Sxsb`, `Oxsb`, `Ixsb`, `Uxsb`: the binders all, some, setof, image and sumof of `x` over `s` with the body `b`.
+//! - `Axsb`, `Sxsb`, `Oxsb`, `Ixsb`, `Uxsb`: the binders all, some, setof, image and sumof of `x` over `s` with the body `b`;
+//! - `Da` and `Qa`: `a` below 1000 and below 250 negations; `Lxa`: the sequence of 1000 times `x` and then `a`.
 //!
 //! `None` is want of memory, or a text that is no term.
+ghost use Rattle.std.specs.Prelude.{◌≡◌, true};
+ghost use Rattle.kid_term.specs.TermView.{plain_term};
+
 use kid_term::{
-    Binder, BoxedTerm, Head, Literal, LogicOp, MapOp, NumberOp, Op, PairOp, Path, SeqOp, SetOp,
-    Term, Terms, WordOp, same,
+    Binder, BoxedTerm, Head, Literal, LogicOp, MapOp, NumberOp, Op, PairOp, SeqOp, SetOp, Term,
+    Terms, WordOp, same,
 };
 use kid_value::{Sort, Text};
 use std::alloc::Global;
 
-pub fn text(alloc: Global, word: &str) -> Option<Text> {
-    Text::from_slice(alloc, word.as_bytes()).ok()
-}
+const MANY: u32 = 1000;
 
-pub fn path(alloc: Global, steps: &[u32]) -> Option<Path> {
-    let mut path = Path::new(alloc);
-    for step in steps {
-        path.push(*step).ok()?;
-    }
-    Some(path)
+// All terms of a row stand in one list, and what is made of them is put there too: a list is dropped by one call, where a term opens
+// all its forms.
+
+/// Whether the terms are equal.
+pub fn is(found: &Term, want: &Term) -> bool
+    ensures { result ≡ true → plain_term found.now ≡ plain_term want.now }
+{
+    same(found, want)
 }
 
 fn name(alloc: Global, letter: u8) -> Option<Term> {
@@ -40,7 +44,7 @@ fn number(digit: u8) -> Option<Term> {
     }
 }
 
-fn name_of(term: Option<Term>) -> Option<Text> {
+pub fn name_of(term: Option<Term>) -> Option<Text> {
     match term {
         Some(Term::Var(name)) => Some(name),
         _ => None,
@@ -51,11 +55,16 @@ fn called(name: Option<Text>) -> Option<Head> {
     Some(Head::Call(name?))
 }
 
-fn cast(greatest: Option<Term>) -> Option<Head> {
-    match greatest {
-        Some(Term::Lit(Literal::Int(hi))) => Some(Head::Cast(Sort::Int { lo: 0, hi })),
+fn number_of(term: &Option<Term>) -> Option<i64> {
+    match term {
+        Some(Term::Lit(Literal::Int(n))) => Some(*n),
         _ => None,
     }
+}
+
+fn cast(greatest: &Option<Term>) -> Option<Head> {
+    let hi = number_of(greatest)?;
+    Some(Head::Cast(Sort::Int { lo: 0, hi }))
 }
 
 // so many terms off the top of the pile, the topmost first
@@ -100,7 +109,7 @@ fn call(alloc: Global, pile: &mut Vec<Term>, count: u32) -> Option<Term> {
 }
 
 fn casting(alloc: Global, pile: &mut Vec<Term>) -> Option<Term> {
-    let head = cast(pile.pop());
+    let head = cast(&pile.pop());
     applied(head, taken(alloc, pile, 1))
 }
 
@@ -110,11 +119,72 @@ fn binding(alloc: Global, pile: &mut Vec<Term>, binder: Binder) -> Option<Term> 
     bound(binder, name, set, boxed(alloc, pile.pop()))
 }
 
+fn joined(first: Option<Text>, second: Option<Text>) -> Option<Text> {
+    let mut name = first?;
+    for byte in second?.as_slice() {
+        name.push(*byte).ok()?;
+    }
+    Some(name)
+}
+
+fn long_name(pile: &mut Vec<Term>) -> Option<Term> {
+    let first = name_of(pile.pop());
+    let name = joined(first, name_of(pile.pop()))?;
+    Some(Term::Var(name))
+}
+
 fn tag(name: Option<Text>) -> Option<Term> {
     Some(Term::Lit(Literal::Tag(name?)))
 }
 
-// what makes a value of its parts, or a number
+pub fn put_term(pile: &mut Vec<Term>, term: Term) -> Option<()> {
+    pile.push(term).ok()
+}
+
+pub fn push(pile: &mut Vec<Term>, term: Option<Term>) -> Option<()> {
+    match term {
+        Some(term) => put_term(pile, term),
+        None => None,
+    }
+}
+
+// the topmost below so many negations
+fn deep(alloc: Global, pile: &mut Vec<Term>, count: u32) -> Option<Term> {
+    for _ in 0..count {
+        let negation = operation(alloc, pile, Op::Logic(LogicOp::Not), 1);
+        push(pile, negation)?;
+    }
+    pile.pop()
+}
+
+fn again(alloc: Global, name: &Text) -> Option<Term> {
+    Some(Term::Var(name.copy(alloc).ok()?))
+}
+
+// many times the name, and then what is topmost
+fn long(alloc: Global, pile: &mut Vec<Term>, name: Option<Text>) -> Option<Term> {
+    let name = name?;
+    for _ in 0..MANY {
+        push(pile, again(alloc, &name))?;
+    }
+    operation(alloc, pile, Op::Seq(SeqOp::Seq), MANY + 1)
+}
+
+// what has many parts, or a number
+fn large(alloc: Global, pile: &mut Vec<Term>, head: u8) -> Option<Term> {
+    match head {
+        b'D' => deep(alloc, pile, MANY),
+        b'Q' => deep(alloc, pile, 250),
+        b'L' => {
+            let name = name_of(pile.pop());
+            long(alloc, pile, name)
+        }
+        b'.' => long_name(pile),
+        digit => number(digit),
+    }
+}
+
+// what makes a value of its parts
 fn composed(alloc: Global, pile: &mut Vec<Term>, head: u8) -> Option<Term> {
     match head {
         b'\'' => tag(name_of(pile.pop())),
@@ -123,7 +193,18 @@ fn composed(alloc: Global, pile: &mut Vec<Term>, head: u8) -> Option<Term> {
         b';' => operation(alloc, pile, Op::Seq(SeqOp::Seq), 2),
         b'M' => operation(alloc, pile, Op::Map(MapOp::Map), 0),
         b'=' => operation(alloc, pile, Op::Map(MapOp::Put), 3),
-        digit => number(digit),
+        head => large(alloc, pile, head),
+    }
+}
+
+fn binder(alloc: Global, pile: &mut Vec<Term>, head: u8) -> Option<Term> {
+    match head {
+        b'A' => binding(alloc, pile, Binder::All),
+        b'S' => binding(alloc, pile, Binder::Some),
+        b'O' => binding(alloc, pile, Binder::SetOf),
+        b'I' => binding(alloc, pile, Binder::Image),
+        b'U' => binding(alloc, pile, Binder::SumOf),
+        head => composed(alloc, pile, head),
     }
 }
 
@@ -138,12 +219,7 @@ fn headed(alloc: Global, pile: &mut Vec<Term>, head: u8) -> Option<Term> {
         b'@' => call(alloc, pile, 1),
         b'$' => call(alloc, pile, 2),
         b':' => casting(alloc, pile),
-        b'A' => binding(alloc, pile, Binder::All),
-        b'S' => binding(alloc, pile, Binder::Some),
-        b'O' => binding(alloc, pile, Binder::SetOf),
-        b'I' => binding(alloc, pile, Binder::Image),
-        b'U' => binding(alloc, pile, Binder::SumOf),
-        head => composed(alloc, pile, head),
+        head => binder(alloc, pile, head),
     }
 }
 
@@ -151,45 +227,32 @@ fn read(alloc: Global, pile: &mut Vec<Term>, head: u8) -> Option<Term> {
     match head {
         b'T' => Some(Term::Lit(Literal::Bool(true))),
         b'F' => Some(Term::Lit(Literal::Bool(false))),
-        _ => if head.is_ascii_lowercase() {
-            name(alloc, head)
-        } else {
-            headed(alloc, pile, head)
-        },
+        b'a'..=b'z' => name(alloc, head),
+        _ => headed(alloc, pile, head),
     }
 }
 
 fn put(alloc: Global, pile: &mut Vec<Term>, head: u8) -> Option<()> {
-    let term = read(alloc, pile, head)?;
-    pile.push(term).ok()
+    if head == b' ' {
+        return Some(());
+    }
+    let term = read(alloc, pile, head);
+    push(pile, term)
 }
 
-fn last_of(mut pile: Vec<Term>) -> Option<Term> {
-    let term = pile.pop();
-    if pile.is_empty() { term } else { None }
-}
-
-/// The term that the text spells.
-pub fn term(alloc: Global, text: &str) -> Option<Term> {
+/// The terms that the text spells, the last one first.
+pub fn terms(alloc: Global, text: &str) -> Option<Vec<Term>> {
     let mut pile = Vec::new(alloc);
     for head in text.as_bytes().iter().rev() {
         put(alloc, &mut pile, *head)?;
     }
-    last_of(pile)
+    Some(pile)
 }
 
-/// Whether both were built and are equal.
-pub fn are_same(found: Option<Term>, want: Option<Term>) -> bool {
-    match (found, want) {
-        (Some(found), Some(want)) => same(&found, &want),
+/// Whether the last term is as the first.
+pub fn are_alike(terms: &[Term]) -> bool {
+    match terms {
+        [want, .., made] => is(made, want),
         _ => false,
-    }
-}
-
-/// Whether the text spells the term.
-pub fn is_spelled(alloc: Global, found: &Term, want: &str) -> bool {
-    match term(alloc, want) {
-        Some(want) => same(found, &want),
-        None => false,
     }
 }

@@ -1,29 +1,33 @@
 //! The terms of values.
-use crate::notation::is_spelled;
-use crate::values::value;
+use crate::notation::{are_alike, push, terms};
+use crate::values::values;
 use kid_term::{Term, quote};
 use kid_value::Value;
 use std::alloc::Global;
 use std::process::Abort;
 
-fn quoted(alloc: Global, value: Option<Value>) -> Option<Term> {
-    quote(alloc, &value?).ok()
+fn put_quoted(alloc: Global, terms: &mut Vec<Term>, values: &[Value]) -> Option<()> {
+    match values {
+        [value] => push(terms, quote(alloc, value).ok()),
+        _ => None,
+    }
 }
 
-fn is_quoted(alloc: Global, found: Option<Term>, want: &str) -> bool {
-    match found {
-        Some(found) => is_spelled(alloc, &found, want),
-        None => false,
-    }
+fn told(alloc: Global, it: &str, want: &str) -> Option<bool> {
+    let values = values(alloc, it)?;
+    let mut terms = terms(alloc, want)?;
+    put_quoted(alloc, &mut terms, &values)?;
+    Some(are_alike(&terms))
+}
+
+fn is_quoted(alloc: Global, it: &str, want: &str) -> bool {
+    matches!(told(alloc, it, want), Some(true))
 }
 
 fn quotes(rt: &impl Abort, alloc: Global, rows: &[(&str, &str)]) {
     for row in rows {
         let (it, want) = *row;
-        assert!(rt;
-            is_quoted(alloc, quoted(alloc, value(alloc, it)), want),
-            "at {it}"
-        );
+        assert!(rt; is_quoted(alloc, it, want), "at {it}");
     }
 }
 

@@ -1,49 +1,75 @@
 //! Other names for binders.
-use crate::notation::{is_spelled, term, text};
+use crate::notation::{are_alike, put_term, terms};
 use kid_term::{RenameFault, Term};
-use kid_value::Text;
 use std::alloc::Global;
 use std::process::Abort;
 
-type Renamed = Result<Term, (Term, RenameFault)>;
+fn told(put: Option<()>, fault: Option<RenameFault>) -> Option<Option<RenameFault>> {
+    put?;
+    Some(fault)
+}
 
-fn renamed(alloc: Global, term: Option<Term>, to: Option<Text>) -> Option<Renamed> {
-    match (term, to) {
-        (Some(term), Some(to)) => Some(term.rename(alloc, to)),
+// puts what was made or given back, and tells the fault
+fn put_result(
+    terms: &mut Vec<Term>,
+    made: Result<Term, (Term, RenameFault)>,
+) -> Option<Option<RenameFault>> {
+    match made {
+        Ok(term) => told(put_term(terms, term), None),
+        Err((term, fault)) => told(put_term(terms, term), Some(fault)),
+    }
+}
+
+// renames a term to the name that is on top
+fn put_named(alloc: Global, terms: &mut Vec<Term>, term: Term) -> Option<Option<RenameFault>> {
+    match terms.pop() {
+        Some(Term::Var(to)) => put_result(terms, term.rename(alloc, to)),
         _ => None,
     }
 }
 
-fn is_made(alloc: Global, made: Option<Renamed>, want: &str) -> bool {
-    match made {
-        Some(Ok(made)) => is_spelled(alloc, &made, want),
-        _ => false,
+fn put_renamed(alloc: Global, terms: &mut Vec<Term>) -> Option<Option<RenameFault>> {
+    match terms.pop() {
+        Some(term) => put_named(alloc, terms, term),
+        None => None,
     }
 }
 
-fn renames(rt: &impl Abort, alloc: Global, rows: &[(&str, &str, &str)]) {
+// the fault, where what was made or given back is as it should be
+fn renamed(alloc: Global, text: &str) -> Option<Option<RenameFault>> {
+    let mut terms = terms(alloc, text)?;
+    let fault = put_renamed(alloc, &mut terms)?;
+    if are_alike(&terms) { Some(fault) } else { None }
+}
+
+fn is_renamed(alloc: Global, text: &str) -> bool {
+    matches!(renamed(alloc, text), Some(None))
+}
+
+fn renames(rt: &impl Abort, alloc: Global, rows: &[&str]) {
     for row in rows {
-        let (it, to, want) = *row;
-        let made = renamed(alloc, term(alloc, it), text(alloc, to));
-        assert!(rt; is_made(alloc, made, want), "at {it} {to}");
+        assert!(rt; is_renamed(alloc, row), "at {row}");
     }
 }
 
-const RENAMED: [(&str, &str, &str); 12] = [
-    ("Ays<xy", "z", "Azs<xz"),
-    ("Ays<yx", "z", "Azs<zx"),
-    ("Ays<xw", "z", "Azs<xw"),
-    ("Sys!y", "z", "Szs!z"),
-    ("Oys<y3", "z", "Ozs<z3"),
-    ("Iys@fy", "z", "Izs@fz"),
-    ("Uys?pqy", "z", "Uzs?pqz"),
+// a term, its new name, and what is made
+const RENAMED: [&str; 13] = [
+    "Ays<xy z Azs<xz",
+    "Ays<yx z Azs<zx",
+    "Ays<xw z Azs<xw",
+    "Sys!y z Szs!z",
+    "Oys<y3 z Ozs<z3",
+    "Iys@fy z Izs@fz",
+    "Uys?pqy z Uzs?pqz",
     // the new name may stand in the set, and the old one keeps its place there
-    ("Ays<xy", "s", "Ass<xs"),
-    ("Ayy<xy", "z", "Azy<xz"),
-    ("AyOzsTy", "z", "AzOzsTz"),
+    "Ays<xy s Ass<xs",
+    "Ayy<xy z Azy<xz",
+    "AyOzsTy z AzOzsTz",
     // an inner binder of the name keeps its places, but for those in its set
-    ("AysAyy<xy", "z", "AzsAyz<xy"),
-    ("AysAwy<yw", "z", "AzsAwz<zw"),
+    "AysAyy<xy z AzsAyz<xy",
+    "AysAwy<yw z AzsAwz<zw",
+    // a deep one, which wants no memory for that
+    "AysDy z AzsDz",
 ];
 
 #[test]
@@ -51,49 +77,53 @@ fn renames_binders(rt: HostRuntime) {
     renames(&rt, rt.alloc(), &RENAMED);
 }
 
-// whether the term was given back as it was, with this fault
-fn is_refused(alloc: Global, made: Option<Renamed>, as_it_was: &str, want: RenameFault) -> bool {
-    match made {
-        Some(Err((term, fault))) => fault == want && is_spelled(alloc, &term, as_it_was),
-        _ => false,
-    }
+fn is_kept(alloc: Global, text: &str, want: RenameFault) -> bool {
+    matches!(renamed(alloc, text), Some(Some(fault)) if fault == want)
 }
 
-fn refuses(rt: &impl Abort, alloc: Global, rows: &[(&str, &str, RenameFault)]) {
+fn refuses(rt: &impl Abort, alloc: Global, rows: &[&str], want: RenameFault) {
     for row in rows {
-        let (it, to, want) = *row;
-        let made = renamed(alloc, term(alloc, it), text(alloc, to));
-        assert!(rt; is_refused(alloc, made, it, want), "at {it} {to}");
+        assert!(rt; is_kept(alloc, row, want), "at {row}");
     }
 }
 
-const REFUSED: [(&str, &str, RenameFault); 12] = [
-    ("Ays<xy", "x", RenameFault::Capture),
-    ("Ays<yx", "x", RenameFault::Capture),
-    ("Ays<xy", "y", RenameFault::Capture),
-    ("AysAzr<yz", "z", RenameFault::Capture),
-    ("AysAar<yOzrT", "z", RenameFault::Capture),
-    ("AysAaz<ya", "z", RenameFault::Capture),
-    ("Ays<yAzrT", "z", RenameFault::Capture),
-    ("x", "z", RenameFault::NoBinder),
-    ("3", "z", RenameFault::NoBinder),
-    ("E", "z", RenameFault::NoBinder),
-    ("!Ays<xy", "z", RenameFault::NoBinder),
-    (":9Uysy", "z", RenameFault::NoBinder),
+// a term, a new name, and the term as it was
+const CAPTURED: [&str; 7] = [
+    "Ays<xy x Ays<xy",
+    "Ays<yx x Ays<yx",
+    "Ays<xy y Ays<xy",
+    "AysAzr<yz z AysAzr<yz",
+    "AysAar<yOzrT z AysAar<yOzrT",
+    "AysAaz<ya z AysAaz<ya",
+    "Ays<yAzrT z Ays<yAzrT",
 ];
 
 #[test]
-fn keeps_names(rt: HostRuntime) {
-    refuses(&rt, rt.alloc(), &REFUSED);
+fn captures_no_name(rt: HostRuntime) {
+    refuses(&rt, rt.alloc(), &CAPTURED, RenameFault::Capture);
+}
+
+const NO_BINDERS: [&str; 5] = [
+    "x z x",
+    "3 z 3",
+    "E z E",
+    "!Ays<xy z !Ays<xy",
+    ":9Uysy z :9Uysy",
+];
+
+#[test]
+fn renames_binders_alone(rt: HostRuntime) {
+    refuses(&rt, rt.alloc(), &NO_BINDERS, RenameFault::NoBinder);
+}
+
+fn is_told(alloc: Global, fault: RenameFault, want: &str) -> bool {
+    matches!(format!(in alloc; "{fault}"), Ok(told) if told.as_str() == want)
 }
 
 fn tells(rt: &impl Abort, alloc: Global, rows: &[(RenameFault, &str)]) {
     for row in rows {
         let (fault, want) = *row;
-        assert!(rt;
-            matches!(format!(in alloc; "{fault}"), Ok(told) if told.as_str() == want),
-            "at {want}"
-        );
+        assert!(rt; is_told(alloc, fault, want), "at {want}");
     }
 }
 

@@ -1,69 +1,70 @@
-//! Terms in the places of several names at once, and terms without free names.
-use crate::notation::{is_spelled, term, text};
+//! Terms in the places of several names at once.
+use crate::notation::{are_alike, name_of, push, terms};
 use kid_term::{Subst, SubstFault, Term};
 use kid_value::Text;
 use std::alloc::Global;
 use std::process::Abort;
 
-/// Names with their terms.
-type Pairs = &'static [(&'static str, &'static str)];
-
-fn pair(name: Option<Text>, new: Option<Term>) -> Option<(Text, Term)> {
-    match (name, new) {
-        (Some(name), Some(new)) => Some((name, new)),
-        _ => None,
+fn add(subst: &mut Subst, name: Option<Text>, new: Option<Term>) -> Option<()> {
+    let name = name?;
+    match new {
+        Some(new) => subst.push(name, new).ok(),
+        None => None,
     }
 }
 
-fn subst(alloc: Global, pairs: &[(&str, &str)]) -> Option<Subst> {
+// the names with their terms, which are on top of a term and what is made of it
+fn paired(alloc: Global, terms: &mut Vec<Term>) -> Option<Subst> {
     let mut subst = Subst::new(alloc);
-    for row in pairs {
-        let (name, new) = pair(text(alloc, row.0), term(alloc, row.1))?;
-        subst.push(name, new).ok()?;
+    for _ in 0..terms.len().saturating_sub(1) / 2 {
+        let name = name_of(terms.pop());
+        add(&mut subst, name, terms.pop())?;
     }
     Some(subst)
 }
 
-fn substituted(
-    alloc: Global,
-    term: Option<Term>,
-    subst: Option<Subst>,
-) -> Option<Result<Term, SubstFault>> {
-    match (term, subst) {
-        (Some(term), Some(subst)) => Some(term.substitute_all(alloc, &subst)),
+fn put_substituted(alloc: Global, terms: &mut Vec<Term>, subst: &Subst) -> Option<()> {
+    match terms.as_slice() {
+        [_, term] => {
+            let made = term.substitute_all(alloc, subst).ok();
+            push(terms, made)
+        }
         _ => None,
     }
 }
 
-fn is_made(alloc: Global, made: Option<Result<Term, SubstFault>>, want: &str) -> bool {
-    match made {
-        Some(Ok(made)) => is_spelled(alloc, &made, want),
-        _ => false,
-    }
+fn substituted(alloc: Global, text: &str) -> Option<bool> {
+    let mut terms = terms(alloc, text)?;
+    let subst = paired(alloc, &mut terms)?;
+    put_substituted(alloc, &mut terms, &subst)?;
+    Some(are_alike(&terms))
 }
 
-fn substitutes(rt: &impl Abort, alloc: Global, rows: &[(&str, Pairs, &str)]) {
+fn is_substituted(alloc: Global, text: &str) -> bool {
+    matches!(substituted(alloc, text), Some(true))
+}
+
+fn substitutes(rt: &impl Abort, alloc: Global, rows: &[&str]) {
     for row in rows {
-        let (it, pairs, want) = *row;
-        let made = substituted(alloc, term(alloc, it), subst(alloc, pairs));
-        assert!(rt; is_made(alloc, made, want), "at {it}");
+        assert!(rt; is_substituted(alloc, row), "at {row}");
     }
 }
 
-const SUBSTITUTED: [(&str, Pairs, &str); 10] = [
-    ("+xy", &[], "+xy"),
-    ("+xy", &[("x", "y"), ("y", "x")], "+yx"),
-    ("+x+yz", &[("x", "y"), ("y", "z"), ("z", "x")], "+y+zx"),
+// names before their terms, then the term in which they stand, and what is made
+const SUBSTITUTED: [&str; 10] = [
+    "+xy +xy",
+    "xy yx +xy +yx",
+    "xy yz zx +x+yz +y+zx",
     // what was put in is not looked at again
-    ("x", &[("x", "+xx")], "+xx"),
-    ("!x", &[("y", "z"), ("x", "y")], "!y"),
+    "x+xx x +xx",
+    "yz xy !x !y",
     // the first for a name counts
-    ("+xx", &[("x", "y"), ("x", "z")], "+yy"),
-    ("3", &[("x", "y")], "3"),
-    (",'xx", &[("x", "y")], ",'xy"),
+    "xy xz +xx +yy",
+    "xy 3 3",
+    "xy ,'xx ,'xy",
     // what is called is no name of the environment
-    ("@fx", &[("f", "y"), ("x", "f")], "@ff"),
-    (":9?xyz", &[("y", "1"), ("z", "T"), ("x", "!x")], ":9?!x1T"),
+    "fy xf @fx @ff",
+    "y1 zT x!x :9?xyz :9?!x1T",
 ];
 
 #[test]
@@ -71,18 +72,18 @@ fn substitutes_several_names(rt: HostRuntime) {
     substitutes(&rt, rt.alloc(), &SUBSTITUTED);
 }
 
-const SUBSTITUTED_BELOW_BINDERS: [(&str, Pairs, &str); 8] = [
+const SUBSTITUTED_BELOW_BINDERS: [&str; 8] = [
     // a binder's own name keeps its places
-    ("Axs<xy", &[("x", "z"), ("s", "r"), ("y", "w")], "Axr<xw"),
-    ("AxsAyr<xy", &[("x", "1"), ("y", "2")], "AxsAyr<xy"),
-    ("Axs<xx", &[("x", "y")], "Axs<xx"),
+    "xz sr yw Axs<xy Axr<xw",
+    "x1 y2 AxsAyr<xy AxsAyr<xy",
+    "xy Axs<xx Axs<xx",
     // its set stands outside
-    ("Axx<xy", &[("x", "s")], "Axs<xy"),
-    ("Ayx<yz", &[("x", "y")], "Ayy<yz"),
-    ("+xUxsx", &[("x", "y")], "+yUxsx"),
+    "xs Axx<xy Axs<xy",
+    "xy Ayx<yz Ayy<yz",
+    "xy +xUxsx +yUxsx",
     // a name may be bound where no term that mentions it is put in
-    ("Ays<yz", &[("x", "y"), ("z", "w")], "Ays<yw"),
-    ("Ays<xy", &[("x", "z"), ("x", "y")], "Ays<zy"),
+    "xy zw Ays<yz Ays<yw",
+    "xz xy Ays<xy Ays<zy",
 ];
 
 #[test]
@@ -90,58 +91,39 @@ fn substitutes_below_binders(rt: HostRuntime) {
     substitutes(&rt, rt.alloc(), &SUBSTITUTED_BELOW_BINDERS);
 }
 
-fn is_captured(made: Option<Result<Term, SubstFault>>) -> bool {
-    matches!(made, Some(Err(SubstFault::Capture)))
-}
-
-fn captures(rt: &impl Abort, alloc: Global, rows: &[(&str, Pairs)]) {
-    for row in rows {
-        let (it, pairs) = *row;
-        let made = substituted(alloc, term(alloc, it), subst(alloc, pairs));
-        assert!(rt; is_captured(made), "at {it}");
+fn fault_among(alloc: Global, terms: &[Term], subst: &Subst) -> Option<SubstFault> {
+    match terms {
+        [term] => term.substitute_all(alloc, subst).err(),
+        _ => None,
     }
 }
 
-const CAPTURED: [(&str, Pairs); 6] = [
-    ("Ays<xy", &[("x", "y")]),
-    ("Ays<xy", &[("x", "y"), ("y", "x")]),
-    ("Ays<xy", &[("z", "1"), ("x", "+yz")]),
-    ("Ays<xw", &[("w", "1"), ("x", "y")]),
-    ("AysAzr<xz", &[("x", "y")]),
-    ("AzrOys<xz", &[("x", "!y")]),
+fn fault_of(alloc: Global, text: &str) -> Option<SubstFault> {
+    let mut terms = terms(alloc, text)?;
+    let subst = paired(alloc, &mut terms)?;
+    fault_among(alloc, &terms, &subst)
+}
+
+fn is_captured(alloc: Global, text: &str) -> bool {
+    matches!(fault_of(alloc, text), Some(SubstFault::Capture))
+}
+
+fn captures(rt: &impl Abort, alloc: Global, rows: &[&str]) {
+    for row in rows {
+        assert!(rt; is_captured(alloc, row), "at {row}");
+    }
+}
+
+const CAPTURED: [&str; 6] = [
+    "xy Ays<xy",
+    "xy yx Ays<xy",
+    "z1 x+yz Ays<xy",
+    "w1 xy Ays<xw",
+    "xy AysAzr<xz",
+    "x!y AzrOys<xz",
 ];
 
 #[test]
 fn lets_no_name_be_captured(rt: HostRuntime) {
     captures(&rt, rt.alloc(), &CAPTURED);
-}
-
-fn is_closed(term: Option<Term>) -> Option<bool> {
-    Some(term?.is_closed())
-}
-
-fn tells_closed(rt: &impl Abort, alloc: Global, rows: &[(&str, bool)]) {
-    for row in rows {
-        let (it, want) = *row;
-        assert!(rt; is_closed(term(alloc, it)) == Some(want), "at {it}");
-    }
-}
-
-const CLOSED: [(&str, bool); 11] = [
-    ("3", true),
-    ("'x", true),
-    ("x", false),
-    ("+1x", false),
-    ("@f1", true),
-    ("AxE<x1", true),
-    ("Axs<x1", false),
-    ("AxxT", false),
-    ("AxE<xy", false),
-    ("AxEAyE<xy", true),
-    ("!AyOxETx", false),
-];
-
-#[test]
-fn tells_what_is_closed(rt: HostRuntime) {
-    tells_closed(&rt, rt.alloc(), &CLOSED);
 }

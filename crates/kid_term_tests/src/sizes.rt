@@ -1,23 +1,27 @@
-//! How large and how deep terms are, and what they hold.
-use crate::notation::{is_spelled, term};
-use kid_term::Term;
+//! How large and how deep terms are, what they hold, and terms without free names.
+use crate::notation::{is, terms};
+use kid_term::{Literal, Term};
 use std::alloc::Global;
 use std::process::Abort;
 
-fn measured(term: Option<Term>) -> Option<(u64, u64)> {
-    match term {
-        Some(term) => Some((term.nodes(), term.depth())),
-        None => None,
+fn are_measured(terms: &[Term], nodes: u64, depth: u64) -> bool {
+    match terms {
+        [term] => term.nodes() == nodes && term.depth() == depth,
+        _ => false,
+    }
+}
+
+fn is_measured(alloc: Global, text: &str, nodes: u64, depth: u64) -> bool {
+    match terms(alloc, text) {
+        Some(terms) => are_measured(&terms, nodes, depth),
+        None => false,
     }
 }
 
 fn measures(rt: &impl Abort, alloc: Global, rows: &[(&str, u64, u64)]) {
     for row in rows {
         let (it, nodes, depth) = *row;
-        assert!(rt;
-            measured(term(alloc, it)) == Some((nodes, depth)),
-            "at {it}"
-        );
+        assert!(rt; is_measured(alloc, it, nodes, depth), "at {it}");
     }
 }
 
@@ -45,84 +49,132 @@ fn measures_terms(rt: HostRuntime) {
     measures(&rt, rt.alloc(), &MEASURED);
 }
 
-fn of_words(term: Option<Term>) -> Option<bool> {
-    match term {
-        Some(term) => Some(term.holds_word_operator()),
-        None => None,
+/// What is asked of a term.
+#[derive(Clone, Copy)]
+enum Question {
+    HoldsWordOperator,
+    IsClosed,
+}
+
+// whether the answer is what the last term says
+fn is_answer(question: Question, terms: &[Term]) -> bool {
+    match terms {
+        [Term::Lit(Literal::Bool(want)), term] => match question {
+            Question::HoldsWordOperator => term.holds_word_operator() == *want,
+            Question::IsClosed => term.is_closed() == *want,
+        },
+        _ => false,
     }
 }
 
-fn holds(rt: &impl Abort, alloc: Global, rows: &[(&str, bool)]) {
+fn is_told(alloc: Global, question: Question, text: &str) -> bool {
+    match terms(alloc, text) {
+        Some(terms) => is_answer(question, &terms),
+        None => false,
+    }
+}
+
+fn answers(rt: &impl Abort, alloc: Global, question: Question, rows: &[&str]) {
     for row in rows {
-        let (it, want) = *row;
-        assert!(rt; of_words(term(alloc, it)) == Some(want), "at {it}");
+        assert!(rt; is_told(alloc, question, row), "at {row}");
     }
 }
 
-const OF_WORDS: [(&str, bool); 15] = [
-    ("Ixs#r", true),
-    ("Ays<xy", false),
-    ("#r", true),
-    ("!#r", true),
-    ("<#rx", true),
-    ("?pq#r", true),
-    ("@f#r", true),
-    (":9#r", true),
-    ("Ay#rT", true),
-    ("Ays<x#r", true),
-    ("x", false),
-    ("3", false),
-    ("E", false),
-    ("@wx", false),
-    (":9x", false),
+const OF_WORDS: [&str; 15] = [
+    "Ixs#r T",
+    "Ays<xy F",
+    "#r T",
+    "!#r T",
+    "<#rx T",
+    "?pq#r T",
+    "@f#r T",
+    ":9#r T",
+    "Ay#rT T",
+    "Ays<x#r T",
+    "x F",
+    "3 F",
+    "E F",
+    "@wx F",
+    ":9x F",
 ];
 
 #[test]
 fn holds_word_operators(rt: HostRuntime) {
-    holds(&rt, rt.alloc(), &OF_WORDS);
+    answers(&rt, rt.alloc(), Question::HoldsWordOperator, &OF_WORDS);
 }
 
-// whether the arguments of an application, or the set and the body of a binder, are these
-fn are_children(alloc: Global, term: Option<Term>, wants: &[&str]) -> bool {
-    match term {
-        Some(Term::App(_, args)) => are_items(alloc, args.items(), wants)
-            && args.len() == wants.len(),
-        Some(Term::Bind(_, _, set, body)) => match wants {
-            [first, second] => {
-                is_spelled(alloc, set.get(), first) && is_spelled(alloc, body.get(), second)
-            }
-            _ => false,
-        },
-        _ => wants.is_empty(),
-    }
+const CLOSED: [&str; 11] = [
+    "3 T",
+    "'x T",
+    "x F",
+    "+1x F",
+    "@f1 T",
+    "AxE<x1 T",
+    "Axs<x1 F",
+    "AxxT F",
+    "AxE<xy F",
+    "AxEAyE<xy T",
+    "!AyOxETx F",
+];
+
+#[test]
+fn tells_what_is_closed(rt: HostRuntime) {
+    answers(&rt, rt.alloc(), Question::IsClosed, &CLOSED);
 }
 
-fn are_items(alloc: Global, found: &[Term], wants: &[&str]) -> bool {
+// the parts are read from the last to the first
+fn are_items(found: &[Term], wants: &[Term]) -> bool {
     if found.len() != wants.len() {
         return false;
     }
-    for (term, want) in found.iter().zip(wants) {
-        if !is_spelled(alloc, term, want) {
+    for (found, want) in found.iter().zip(wants.iter().rev()) {
+        if !is(found, want) {
             return false;
         }
     }
     true
 }
 
-fn takes_apart(rt: &impl Abort, alloc: Global, rows: &[(&str, &[&str])]) {
-    for row in rows {
-        let (it, wants) = *row;
-        assert!(rt; are_children(alloc, term(alloc, it), wants), "at {it}");
+// whether the arguments of an application, or the set and the body of a binder, are these
+fn are_parts(term: &Term, wants: &[Term]) -> bool {
+    match term {
+        Term::App(_, args) => are_items(args.items(), wants) && args.len() == wants.len(),
+        Term::Bind(_, _, set, body) => match wants {
+            [second, first] => is(set.get(), first) && is(body.get(), second),
+            _ => false,
+        },
+        _ => wants.is_empty(),
     }
 }
 
-const CHILDREN: [(&str, &[&str]); 6] = [
-    ("x", &[]),
-    ("E", &[]),
-    ("!x", &["x"]),
-    ("?p!qx", &["p", "!q", "x"]),
-    ("Ays<xy", &["s", "<xy"]),
-    ("UyOxsT3", &["OxsT", "3"]),
+fn are_children(terms: &[Term]) -> bool {
+    match terms {
+        [wants @ .., term] => are_parts(term, wants),
+        _ => false,
+    }
+}
+
+fn is_taken_apart(alloc: Global, text: &str) -> bool {
+    match terms(alloc, text) {
+        Some(terms) => are_children(&terms),
+        None => false,
+    }
+}
+
+fn takes_apart(rt: &impl Abort, alloc: Global, rows: &[&str]) {
+    for row in rows {
+        assert!(rt; is_taken_apart(alloc, row), "at {row}");
+    }
+}
+
+// a term, and its parts
+const CHILDREN: [&str; 6] = [
+    "x",
+    "E",
+    "!x x",
+    "?p!qx p !q x",
+    "Ays<xy s <xy",
+    "UyOxsT3 OxsT 3",
 ];
 
 #[test]

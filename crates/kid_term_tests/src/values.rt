@@ -7,22 +7,32 @@
 use kid_value::{Entries, Members, Text, Value, Values};
 use std::alloc::Global;
 
-fn pair(alloc: Global, pile: &mut Vec<Value>) -> Option<Value> {
-    let first = pile.pop()?;
-    Value::pair(alloc, first, pile.pop()?).ok()
+fn paired(alloc: Global, first: Option<Value>, second: Option<Value>) -> Option<Value> {
+    match (first, second) {
+        (Some(first), Some(second)) => Value::pair(alloc, first, second).ok(),
+        _ => None,
+    }
+}
+
+fn join(members: &mut Members, member: Option<Value>) -> Option<()> {
+    members.put(member?).ok()
 }
 
 fn set(alloc: Global, pile: &mut Vec<Value>) -> Option<Value> {
     let mut members = Members::new(alloc);
-    members.put(pile.pop()?).ok()?;
-    members.put(pile.pop()?).ok()?;
+    join(&mut members, pile.pop())?;
+    join(&mut members, pile.pop())?;
     Some(Value::Set(members))
+}
+
+fn append(items: &mut Values, item: Option<Value>) -> Option<()> {
+    items.push(item?).ok()
 }
 
 fn sequence(alloc: Global, pile: &mut Vec<Value>) -> Option<Value> {
     let mut items = Values::new(alloc);
-    items.push(pile.pop()?).ok()?;
-    items.push(pile.pop()?).ok()?;
+    append(&mut items, pile.pop())?;
+    append(&mut items, pile.pop())?;
     Some(Value::Seq(items))
 }
 
@@ -33,21 +43,18 @@ fn entries_of(map: Option<Value>) -> Option<Entries> {
     }
 }
 
-fn entered(entries: Option<Entries>, key: Option<Value>, value: Option<Value>) -> Option<Value> {
-    let mut entries = entries?;
+fn enter(entries: &mut Entries, key: Option<Value>, value: Option<Value>) -> Option<()> {
     match (key, value) {
-        (Some(key), Some(value)) => {
-            entries.put(key, value).ok()?;
-            Some(Value::Map(entries))
-        }
+        (Some(key), Some(value)) => entries.put(key, value).ok(),
         _ => None,
     }
 }
 
 fn put(pile: &mut Vec<Value>) -> Option<Value> {
-    let entries = entries_of(pile.pop());
+    let mut entries = entries_of(pile.pop())?;
     let key = pile.pop();
-    entered(entries, key, pile.pop())
+    enter(&mut entries, key, pile.pop())?;
+    Some(Value::Map(entries))
 }
 
 fn number(digit: u8) -> Option<Value> {
@@ -68,7 +75,7 @@ fn read(alloc: Global, pile: &mut Vec<Value>, head: u8) -> Option<Value> {
         b'T' => Some(Value::Bool(true)),
         b'F' => Some(Value::Bool(false)),
         b'M' => Some(Value::Map(Entries::new(alloc))),
-        b',' => pair(alloc, pile),
+        b',' => paired(alloc, pile.pop(), pile.pop()),
         b'&' => set(alloc, pile),
         b';' => sequence(alloc, pile),
         b'=' => put(pile),
@@ -80,17 +87,20 @@ fn read(alloc: Global, pile: &mut Vec<Value>, head: u8) -> Option<Value> {
     }
 }
 
-fn last_of(mut pile: Vec<Value>) -> Option<Value> {
-    let value = pile.pop();
-    if pile.is_empty() { value } else { None }
+fn push(pile: &mut Vec<Value>, value: Option<Value>) -> Option<()> {
+    pile.push(value?).ok()
 }
 
-/// The value that the text spells.
-pub fn value(alloc: Global, text: &str) -> Option<Value> {
+fn put_head(alloc: Global, pile: &mut Vec<Value>, head: u8) -> Option<()> {
+    let value = read(alloc, pile, head);
+    push(pile, value)
+}
+
+/// The values that the text spells, the last one first.
+pub fn values(alloc: Global, text: &str) -> Option<Vec<Value>> {
     let mut pile = Vec::new(alloc);
     for head in text.as_bytes().iter().rev() {
-        let value = read(alloc, &mut pile, *head)?;
-        pile.push(value).ok()?;
+        put_head(alloc, &mut pile, *head)?;
     }
-    last_of(pile)
+    Some(pile)
 }

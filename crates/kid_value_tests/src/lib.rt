@@ -2,10 +2,12 @@
 #![tactic(auto)]
 
 #[cfg(test)]
-mod built;
-#[cfg(test)]
 mod lists;
 #[cfg(test)]
+mod sort_words;
+#[cfg(test)]
 mod sorts;
+#[cfg(test)]
+mod value_words;
 #[cfg(test)]
 mod values;

@@ -1,146 +1,226 @@
-//! Counts, limits and joins of sorts.
-use crate::built::{byte_enum, enum_sort, map_sort, pair_sort, sequence_sort, set_sort};
+//! Counts, limits, joins and copies of sorts.
+ghost use Rattle.std.specs.Prelude.{◌≡◌, ◌&&◌, true};
+ghost use Rattle.kid_value.specs.SortOrder.{is_subsort};
+ghost use Rattle.kid_value.specs.SortView.{plain_sort};
+
+use crate::sort_words::sorts;
 use kid_value::{Sort, count_of, join, sort_ok, subsort};
-use std::test::Fail;
+use std::alloc::Global;
+use std::process::Abort;
 
-#[test]
-fn counts_up_to_the_cap(rt: HostRuntime) -> Result<(), Fail> {
-    let alloc = rt.alloc();
-    let number = |lo: i64, hi: i64| Sort::Int { lo, hi };
-    assert_eq!(rt; count_of(&number(1, 65536)), 65536);
-    assert_eq!(rt; count_of(&number(0, 65536)), 65537);
-    assert_eq!(rt; count_of(&set_sort(alloc, number(1, 16))?), 65536);
-    assert_eq!(rt; count_of(&set_sort(alloc, number(1, 17))?), 65537);
-    assert_eq!(rt;
-        count_of(&pair_sort(alloc, number(1, 256), number(1, 256))?),
-        65536
-    );
-    assert_eq!(rt;
-        count_of(&map_sort(alloc, number(1, 4), number(1, 15))?),
-        65536
-    );
-    assert_eq!(rt;
-        count_of(&map_sort(alloc, number(1, 4), number(1, 16))?),
-        65537
-    );
-    assert_eq!(rt;
-        count_of(&sequence_sort(alloc, number(7, 7), 65535)?),
-        65536
-    );
-    assert_eq!(rt;
-        count_of(&sequence_sort(alloc, number(7, 7), 65536)?),
-        65537
-    );
-    assert_eq!(rt; count_of(&sequence_sort(alloc, Sort::Bool, 15)?), 65535);
-    assert_eq!(rt; count_of(&sequence_sort(alloc, Sort::Bool, 16)?), 65537);
-    assert_eq!(rt; count_of(&set_sort(alloc, Sort::Never)?), 1);
-    assert_eq!(rt; count_of(&byte_enum(alloc, 1, 65)?), 64);
-    assert_eq!(rt;
-        count_of(&set_sort(alloc, byte_enum(alloc, 1, 17)?)?),
-        65536
-    );
-    Ok(())
+/// Whether each is below the other.
+fn is(found: &Sort, want: &Sort) -> bool
+    ensures { result ≡ true → (is_subsort (plain_sort found.now) (plain_sort want.now) && is_subsort (plain_sort want.now) (plain_sort found.now)) ≡ true }
+{
+    subsort(found, want) && subsort(want, found)
 }
 
-#[test]
-fn allows_sorts(rt: HostRuntime) -> Result<(), Fail> {
-    let alloc = rt.alloc();
-    let mut deep = Sort::Bool;
-    for _ in 0..7 {
-        deep = sequence_sort(alloc, deep, 1)?;
+fn counted(built: &Option<Vec<Sort>>) -> Option<u32> {
+    match built {
+        Some(built) => match built.as_slice() {
+            [sort] => Some(count_of(sort)),
+            _ => None,
+        },
+        None => None,
     }
-    assert!(rt; sort_ok(&deep), "8 deep");
-    assert!(rt; !sort_ok(&sequence_sort(alloc, deep, 1)?), "9 deep");
-    let most = 4611686018427387904;
-    assert!(rt;
-        sort_ok(&Sort::Int {
-            lo: -most,
-            hi: most
-        })
-    );
-    assert!(rt;
-        !sort_ok(&Sort::Int {
-            lo: 0,
-            hi: most + 1
-        })
-    );
-    assert!(rt;
-        !sort_ok(&Sort::Int {
-            lo: -most - 1,
-            hi: 0
-        })
-    );
-    assert!(rt; !sort_ok(&Sort::Int { lo: 1, hi: 0 }));
-    assert!(rt; sort_ok(&set_sort(alloc, Sort::Int { lo: 1, hi: 65536 })?));
-    assert!(rt; !sort_ok(&set_sort(alloc, Sort::Int { lo: 0, hi: 65536 })?));
-    assert!(rt; sort_ok(&sequence_sort(alloc, Sort::Never, 65536)?));
-    assert!(rt; !sort_ok(&sequence_sort(alloc, Sort::Never, 65537)?));
-    Ok(())
 }
 
-#[test]
-fn allows_enums_of_ascending_names(rt: HostRuntime) -> Result<(), Fail> {
-    let alloc = rt.alloc();
-    assert!(rt; !sort_ok(&byte_enum(alloc, 1, 1)?), "no name");
-    assert!(rt; sort_ok(&byte_enum(alloc, 1, 65)?), "64 names");
-    assert!(rt; !sort_ok(&byte_enum(alloc, 1, 66)?), "65 names");
-    let table: [(&[&str], bool); 6] = [
-        (&["a"], true),
-        (&["blue", "red"], true),
-        (&["red", "blue"], false),
-        (&["red", "red"], false),
-        (&["a", "ab", "b"], true),
-        (&["a", "ba", "b"], false),
-    ];
-    for (names, allowed) in table {
-        let sort = enum_sort(alloc, names)?;
-        assert!(rt; sort_ok(&sort) == allowed, "{names:?}");
+fn counts(rt: &impl Abort, alloc: Global, rows: &[(&str, u32)]) {
+    for row in rows {
+        let (text, want) = *row;
+        assert!(rt; counted(&sorts(alloc, text)) == Some(want), "at {text}");
     }
-    Ok(())
 }
 
-#[test]
-fn joins_enums_to_their_union(rt: HostRuntime) -> Result<(), Fail> {
-    let alloc = rt.alloc();
-    let first = enum_sort(alloc, &["a", "c", "d"])?;
-    let second = enum_sort(alloc, &["b", "d", "e"])?;
-    let both = enum_sort(alloc, &["a", "b", "c", "d", "e"])?;
-    assert!(rt; !subsort(&first, &second) && subsort(&first, &both) && !subsort(&both, &first));
-    match join(alloc, &first, &second)? {
-        Some(sort) => {
-            assert!(rt; sort_ok(&sort) && subsort(&sort, &both) && subsort(&both, &sort));
-            assert_eq!(rt; count_of(&sort), 5);
-        }
-        None => assert!(rt; false, "no join"),
-    }
-    match join(alloc, &byte_enum(alloc, 1, 50)?, &byte_enum(alloc, 40, 66)?)? {
-        Some(sort) => {
-            assert_eq!(rt; count_of(&sort), 65);
-            assert!(rt; !sort_ok(&sort));
-        }
-        None => assert!(rt; false, "no join"),
-    }
-    assert!(rt; join(alloc, &first, &Sort::Bool)?.is_none());
-    Ok(())
-}
+const COUNTS: [(&str, u32); 14] = [
+    ("int 1 65536", 65536),
+    ("int 0 65536", 65537),
+    ("set int 1 16", 65536),
+    ("set int 1 17", 65537),
+    ("pair int 1 256 int 1 256", 65536),
+    ("map int 1 4 int 1 15", 65536),
+    ("map int 1 4 int 1 16", 65537),
+    ("seq int 7 7 65535", 65536),
+    ("seq int 7 7 65536", 65537),
+    ("seq bool 15", 65535),
+    ("seq bool 16", 65537),
+    ("set never", 1),
+    ("bytes 1 65", 64),
+    ("set bytes 1 17", 65536),
+];
 
 #[test]
-fn joins_and_copies_sorts(rt: HostRuntime) -> Result<(), Fail> {
-    let alloc = rt.alloc();
-    let low = sequence_sort(alloc, Sort::Int { lo: 1, hi: 3 }, 4)?;
-    let high = sequence_sort(alloc, Sort::Int { lo: 2, hi: 5 }, 2)?;
-    let both = sequence_sort(alloc, Sort::Int { lo: 1, hi: 5 }, 4)?.copy(alloc)?;
-    match join(alloc, &low, &high)? {
-        Some(sort) => assert!(rt; subsort(&sort, &both) && subsort(&both, &sort)),
-        None => assert!(rt; false, "no join"),
-    }
-    assert!(rt; join(alloc, &low, &Sort::Bool)?.is_none());
-    Ok(())
+fn counts_up_to_the_cap(rt: HostRuntime) {
+    counts(&rt, rt.alloc(), &COUNTS);
 }
 
+fn allowed(built: &Option<Vec<Sort>>) -> Option<bool> {
+    match built {
+        Some(built) => match built.as_slice() {
+            [sort] => Some(sort_ok(sort)),
+            _ => None,
+        },
+        None => None,
+    }
+}
+
+fn allows(rt: &impl Abort, alloc: Global, rows: &[(&str, bool)]) {
+    for row in rows {
+        let (text, want) = *row;
+        assert!(rt; allowed(&sorts(alloc, text)) == Some(want), "at {text}");
+    }
+}
+
+const ALLOWED: [(&str, bool); 19] = [
+    ("seq seq seq seq seq seq seq bool 1 1 1 1 1 1 1", true),
+    (
+        "seq seq seq seq seq seq seq seq bool 1 1 1 1 1 1 1 1",
+        false,
+    ),
+    ("int -4611686018427387904 4611686018427387904", true),
+    ("int 0 4611686018427387905", false),
+    ("int -4611686018427387905 0", false),
+    ("int 1 0", false),
+    ("set int 1 65536", true),
+    ("set int 0 65536", false),
+    ("seq never 65536", true),
+    ("seq never 65537", false),
+    ("bytes 1 1", false),
+    ("bytes 1 65", true),
+    ("bytes 1 66", false),
+    ("a", true),
+    ("blue|red", true),
+    ("red|blue", false),
+    ("red|red", false),
+    ("a|ab|b", true),
+    ("a|ba|b", false),
+];
+
 #[test]
-fn joins_no_unlike_sorts(rt: HostRuntime) -> Result<(), Fail> {
-    let number = Sort::Int { lo: 1, hi: 2 };
-    assert!(rt; join(rt.alloc(), &Sort::Bool, &number)?.is_none());
-    Ok(())
+fn allows_sorts(rt: HostRuntime) {
+    allows(&rt, rt.alloc(), &ALLOWED);
+}
+
+fn is_below(built: &Option<Vec<Sort>>) -> Option<bool> {
+    match built {
+        Some(built) => match built.as_slice() {
+            [first, second] => Some(subsort(first, second)),
+            _ => None,
+        },
+        None => None,
+    }
+}
+
+fn compares(rt: &impl Abort, alloc: Global, rows: &[(&str, bool)]) {
+    for row in rows {
+        let (text, want) = *row;
+        assert!(rt; is_below(&sorts(alloc, text)) == Some(want), "at {text}");
+    }
+}
+
+const BELOW: [(&str, bool); 3] = [
+    ("a|c|d b|d|e", false),
+    ("a|c|d a|b|c|d|e", true),
+    ("a|b|c|d|e a|c|d", false),
+];
+
+#[test]
+fn compares_sorts(rt: HostRuntime) {
+    compares(&rt, rt.alloc(), &BELOW);
+}
+
+fn joined(alloc: Global, built: &Option<Vec<Sort>>) -> Option<Option<Sort>> {
+    match built {
+        Some(built) => match built.as_slice() {
+            [first, second, ..] => join(alloc, first, second).ok(),
+            _ => None,
+        },
+        None => None,
+    }
+}
+
+fn are_joined(alloc: Global, built: &Option<Vec<Sort>>, count: u32, allowed: bool) -> bool {
+    match (joined(alloc, built), built) {
+        (Some(Some(found)), Some(built)) => match built.as_slice() {
+            [_, _, want] => is(&found, want)
+                && count_of(&found) == count
+                && sort_ok(&found) == allowed,
+            _ => false,
+        },
+        _ => false,
+    }
+}
+
+fn joins(rt: &impl Abort, alloc: Global, rows: &[(&str, u32, bool)]) {
+    for row in rows {
+        let (text, count, allowed) = *row;
+        assert!(rt;
+            are_joined(alloc, &sorts(alloc, text), count, allowed),
+            "at {text}"
+        );
+    }
+}
+
+// the two, the join, how many values it has, and whether it is allowed
+const JOINED: [(&str, u32, bool); 3] = [
+    ("a|c|d b|d|e a|b|c|d|e", 5, true),
+    ("bytes 1 50 bytes 40 66 bytes 1 66", 65, false),
+    ("seq int 1 3 4 seq int 2 5 2 seq int 1 5 4", 781, true),
+];
+
+#[test]
+fn joins_sorts(rt: HostRuntime) {
+    joins(&rt, rt.alloc(), &JOINED);
+}
+
+fn joins_none(rt: &impl Abort, alloc: Global, rows: &[&str]) {
+    for row in rows {
+        assert!(rt;
+            matches!(joined(alloc, &sorts(alloc, row)), Some(None)),
+            "at {row}"
+        );
+    }
+}
+
+const UNLIKE: [&str; 3] = ["a|c|d bool", "seq int 1 3 4 bool", "bool int 1 2"];
+
+#[test]
+fn joins_no_unlike_sorts(rt: HostRuntime) {
+    joins_none(&rt, rt.alloc(), &UNLIKE);
+}
+
+fn copied(alloc: Global, sort: &Sort) -> Option<Sort> {
+    sort.copy(alloc).ok()
+}
+
+fn is_copied(alloc: Global, built: &Option<Vec<Sort>>) -> bool {
+    match built {
+        Some(built) => match built.as_slice() {
+            [sort] => matches!(copied(alloc, sort), Some(copy) if is(&copy, sort)),
+            _ => false,
+        },
+        None => false,
+    }
+}
+
+fn copies(rt: &impl Abort, alloc: Global, rows: &[&str]) {
+    for row in rows {
+        assert!(rt; is_copied(alloc, &sorts(alloc, row)), "at {row}");
+    }
+}
+
+const COPIED: [&str; 8] = [
+    "never",
+    "bool",
+    "int -2 3",
+    "pair bool int 1 2",
+    "set bool",
+    "seq int 1 5 4",
+    "map bool never",
+    "blue|green|red",
+];
+
+#[test]
+fn copies_sorts(rt: HostRuntime) {
+    copies(&rt, rt.alloc(), &COPIED);
 }

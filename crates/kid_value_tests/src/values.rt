@@ -1,134 +1,186 @@
-//! The order of values, least values and copies.
-use crate::built::{enum_sort, map, pair_sort, sequence, set, set_sort, tag};
+//! The order of values, their sorts, least values and copies.
+ghost use Rattle.std.specs.Prelude.{◌≡◌, true};
+ghost use Rattle.kid_value.specs.ValueOrder.{value_cmp};
+ghost use Rattle.kid_value.specs.ValueView.{plain};
+
+use crate::sort_words::sorts;
+use crate::value_words::values;
 use kid_value::{Sort, Value, cmp, has_sort, least_of};
+use std::alloc::Global;
 use std::cmp::Ordering;
-use std::test::Fail;
+use std::process::Abort;
 
-fn in_order(a: &Value, b: &Value) -> bool {
-    cmp(a, b) == Ordering::Less && cmp(b, a) == Ordering::Greater && cmp(a, a) == Ordering::Equal
+/// Whether the first stands so to the second, from both sides.
+fn stands(first: &Value, second: &Value, so: Ordering) -> bool
+    ensures { result ≡ true → value_cmp (plain first.now) (plain second.now) ≡ so }
+{
+    cmp(first, second) == so && cmp(second, first) == so.reverse()
 }
 
-#[test]
-fn orders_sets(rt: HostRuntime) -> Result<(), Fail> {
-    let table: [(&[i64], &[i64]); 6] = [
-        (&[3], &[1, 2]),
-        (&[], &[3]),
-        (&[2], &[1]),
-        (&[1], &[1, 2]),
-        (&[1, 3], &[1, 2]),
-        (&[5, 4, 5], &[4, 5, 6]),
-    ];
-    for (a, b) in table {
-        let first = set(rt.alloc(), a)?;
-        let second = set(rt.alloc(), b)?;
-        assert!(rt; in_order(&first, &second), "{a:?} before {b:?}");
+fn is_ordered(built: &Option<Vec<Value>>) -> bool {
+    match built {
+        Some(built) => match built.as_slice() {
+            [first, second] => stands(first, second, Ordering::Less),
+            _ => false,
+        },
+        None => false,
     }
-    Ok(())
 }
 
-#[test]
-fn orders_maps_and_sequences(rt: HostRuntime) -> Result<(), Fail> {
-    let maps: [(&[(i64, i64)], &[(i64, i64)]); 5] = [
-        (&[(1, 5)], &[(1, 6)]),
-        (&[(2, 0)], &[(1, 0)]),
-        (&[], &[(1, 0)]),
-        (&[(1, 5)], &[(2, 9), (1, 5)]),
-        (&[(1, 9), (1, 4)], &[(1, 5)]),
-    ];
-    for (a, b) in maps {
-        let first = map(rt.alloc(), a)?;
-        let second = map(rt.alloc(), b)?;
-        assert!(rt; in_order(&first, &second), "{a:?} before {b:?}");
+fn orders(rt: &impl Abort, alloc: Global, rows: &[&str]) {
+    for row in rows {
+        assert!(rt; is_ordered(&values(alloc, row)), "at {row}");
     }
-    let sequences: [(&[i64], &[i64]); 3] = [(&[], &[0]), (&[1], &[1, 0]), (&[1, 2], &[2])];
-    for (a, b) in sequences {
-        let first = sequence(rt.alloc(), a)?;
-        let second = sequence(rt.alloc(), b)?;
-        assert!(rt; in_order(&first, &second), "{a:?} before {b:?}");
-    }
-    Ok(())
 }
 
-#[test]
-fn orders_kinds(rt: HostRuntime) -> Result<(), Fail> {
-    let truth = Value::Bool(false);
-    let pair = Value::pair(rt.alloc(), Value::Int(1), Value::Int(2))?;
-    let empty = set(rt.alloc(), &[])?;
-    let sequence = sequence(rt.alloc(), &[])?;
-    let map = map(rt.alloc(), &[])?;
-    assert!(rt; in_order(&Value::Int(9), &truth));
-    assert!(rt; in_order(&truth, &Value::Bool(true)));
-    assert!(rt; in_order(&truth, &pair));
-    assert!(rt; in_order(&pair, &empty));
-    assert!(rt; in_order(&empty, &sequence));
-    assert!(rt; in_order(&sequence, &map));
-    assert!(rt; in_order(&map, &tag(rt.alloc(), "a")?));
-    Ok(())
-}
+const ORDERED: [&str; 27] = [
+    // sets
+    "{3 {12",
+    "{ {3",
+    "{2 {1",
+    "{1 {12",
+    "{13 {12",
+    "{545 {456",
+    // maps
+    "=15 =16",
+    "=20 =10",
+    "= =10",
+    "=15 =2915",
+    "=1914 =15",
+    // sequences
+    "[ [0",
+    "[1 [10",
+    "[12 [2",
+    // kinds
+    "9 false",
+    "false true",
+    "false pair 1 2",
+    "pair 1 2 {",
+    "{ [",
+    "[ =",
+    "= 'a",
+    // tags, by their bytes
+    "'a 'b",
+    "'a 'ab",
+    "'ab 'b",
+    "'a-b 'a0",
+    "'a9 'aa",
+    "'blue 'red",
+];
 
 #[test]
-fn orders_tags_by_their_bytes(rt: HostRuntime) -> Result<(), Fail> {
-    let table = [
-        ("a", "b"),
-        ("a", "ab"),
-        ("ab", "b"),
-        ("a-b", "a0"),
-        ("a9", "aa"),
-        ("blue", "red"),
-    ];
-    for (a, b) in table {
-        let first = tag(rt.alloc(), a)?;
-        let second = tag(rt.alloc(), b)?.copy(rt.alloc())?;
-        assert!(rt; in_order(&first, &second), "{a} before {b}");
-    }
-    Ok(())
+fn orders_values(rt: HostRuntime) {
+    orders(&rt, rt.alloc(), &ORDERED);
 }
 
-#[test]
-fn tells_the_tags_of_an_enum(rt: HostRuntime) -> Result<(), Fail> {
-    let alloc = rt.alloc();
-    let colours = enum_sort(alloc, &["blue", "green", "red"])?.copy(alloc)?;
-    let least = least_of(alloc, &colours)?;
-    assert!(rt; cmp(&least, &tag(alloc, "blue")?) == Ordering::Equal);
-    for name in ["blue", "green", "red"] {
-        assert!(rt; has_sort(&tag(alloc, name)?, &colours), "{name}");
-    }
-    for name in ["", "gree", "greens", "white"] {
-        assert!(rt; !has_sort(&tag(alloc, name)?, &colours), "{name}");
-    }
-    assert!(rt; !has_sort(&Value::Int(1), &colours));
-    Ok(())
+fn copied(alloc: Global, value: &Value) -> Option<Value> {
+    value.copy(alloc).ok()
 }
 
-#[test]
-fn gives_least_values_and_copies(rt: HostRuntime) -> Result<(), Fail> {
-    let alloc = rt.alloc();
-    let sort = pair_sort(
-        alloc,
-        Sort::Int { lo: -2, hi: 3 },
-        set_sort(alloc, Sort::Bool)?,
-    )?;
-    let least = least_of(alloc, &sort)?.copy(alloc)?;
-    let wanted = Value::pair(alloc, Value::Int(-2), set(alloc, &[])?)?;
-    assert!(rt; cmp(&least, &wanted) == Ordering::Equal && has_sort(&least, &sort));
-    let held = map(alloc, &[(2, 7), (1, 5)])?.copy(alloc)?;
-    if let Value::Map(entries) = &held {
-        assert_eq!(rt; entries.len(), 2);
-        match entries.entry(1) {
-            Some((key, value)) => {
-                assert!(rt; cmp(key, &Value::Int(2)) == Ordering::Equal);
-                assert!(rt; cmp(value, &Value::Int(7)) == Ordering::Equal);
-            }
-            None => assert!(rt; false, "no entry"),
-        }
-        assert!(rt; entries.entry(2).is_none());
+fn is(found: Option<Value>, want: &Value) -> bool {
+    match found {
+        Some(found) => stands(&found, want, Ordering::Equal),
+        None => false,
     }
-    Ok(())
 }
 
+fn is_copied(alloc: Global, built: &Option<Vec<Value>>) -> bool {
+    match built {
+        Some(built) => match built.as_slice() {
+            [value] => is(copied(alloc, value), value),
+            _ => false,
+        },
+        None => false,
+    }
+}
+
+fn copies(rt: &impl Abort, alloc: Global, rows: &[&str]) {
+    for row in rows {
+        assert!(rt; is_copied(alloc, &values(alloc, row)), "at {row}");
+    }
+}
+
+const COPIED: [&str; 9] = [
+    "-2",
+    "true",
+    "false",
+    "pair -2 {",
+    "{12",
+    "[212",
+    "=2715",
+    "'red",
+    "'",
+];
+
 #[test]
-fn copies_truth_values(rt: HostRuntime) -> Result<(), Fail> {
-    let copy = Value::Bool(true).copy(rt.alloc())?;
-    assert!(rt; in_order(&Value::Bool(false), &copy));
-    Ok(())
+fn copies_values(rt: HostRuntime) {
+    copies(&rt, rt.alloc(), &COPIED);
+}
+
+fn least(alloc: Global, sort: &Sort) -> Option<Value> {
+    least_of(alloc, sort).ok()
+}
+
+fn is_least(alloc: Global, sorts: &Option<Vec<Sort>>, values: &Option<Vec<Value>>) -> bool {
+    match (sorts, values) {
+        (Some(sorts), Some(values)) => match (sorts.as_slice(), values.as_slice()) {
+            ([sort], [want]) => is(least(alloc, sort), want) && has_sort(want, sort),
+            _ => false,
+        },
+        _ => false,
+    }
+}
+
+fn gives_least(rt: &impl Abort, alloc: Global, rows: &[(&str, &str)]) {
+    for row in rows {
+        let (sort, want) = *row;
+        assert!(rt;
+            is_least(alloc, &sorts(alloc, sort), &values(alloc, want)),
+            "at {sort}"
+        );
+    }
+}
+
+const LEAST: [(&str, &str); 2] = [
+    ("pair int -2 3 set bool", "pair -2 {"),
+    ("blue|green|red", "'blue"),
+];
+
+#[test]
+fn gives_least_values(rt: HostRuntime) {
+    gives_least(&rt, rt.alloc(), &LEAST);
+}
+
+fn belongs(sorts: &Option<Vec<Sort>>, values: &Option<Vec<Value>>) -> Option<bool> {
+    match (sorts, values) {
+        (Some(sorts), Some(values)) => match (sorts.as_slice(), values.as_slice()) {
+            ([sort], [value]) => Some(has_sort(value, sort)),
+            _ => None,
+        },
+        _ => None,
+    }
+}
+
+fn belong(rt: &impl Abort, alloc: Global, rows: &[(&str, &str, bool)]) {
+    for row in rows {
+        let (sort, value, want) = *row;
+        let found = belongs(&sorts(alloc, sort), &values(alloc, value));
+        assert!(rt; found == Some(want), "at {value}");
+    }
+}
+
+const TAGS: [(&str, &str, bool); 8] = [
+    ("blue|green|red", "'blue", true),
+    ("blue|green|red", "'green", true),
+    ("blue|green|red", "'red", true),
+    ("blue|green|red", "'", false),
+    ("blue|green|red", "'gree", false),
+    ("blue|green|red", "'greens", false),
+    ("blue|green|red", "'white", false),
+    ("blue|green|red", "1", false),
+];
+
+#[test]
+fn tells_the_tags_of_an_enum(rt: HostRuntime) {
+    belong(&rt, rt.alloc(), &TAGS);
 }
