@@ -8,13 +8,13 @@ use Rattle.kid_term.specs.Names.{same_name}
 use Rattle.kid_term.specs.Eval.{Env, Calls, eval}
 use Rattle.kid_term.specs.Substitution.{mentions, replaced, captures}
 use Rattle.kid_term.specs.Renaming.{renamed}
+use Rattle.kid_term.specs.Truths.{AllTrue}
 use Rattle.kid_term.specs.declared.rename.RenameFault.{RenameFault}
 use Rattle.kid_term.specs.declared.rename.RenameFault.TheVariants as fault
 use Rattle.kid_term.specs.declared.operator.Binder.TheVariants.{All, Some as AnyOf, SetOf, Image, SumOf}
 use Rattle.kid_term.proofs.EvalLemmas.{same_name-true}
 use Rattle.kid_term.proofs.RenameLemmas.{eval-of_renamed}
 use Rattle.kid_binders.specs.Shapes.{conjunction, equation, member, subset, all, some, image, is_true, is_empty, as_and, as_equation, as_member}
-use Rattle.kid_binders.specs.Meaning.{AllTrue}
 use Rattle.kid_binders.specs.Outcome.{PlainBound, capture, made, made_if}
 use Rattle.kid_binders.specs.Same.{same_term}
 use Rattle.kid_binders.specs.Naming.{of_renamed, b1}

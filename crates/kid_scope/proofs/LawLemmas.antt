@@ -19,8 +19,8 @@ use Rattle.kid_term.proofs.EvalLemmas.{eval-agree}
 use Rattle.kid_term.proofs.LogicSound.{IsOfSort-subsort}
 use Rattle.kid_term.proofs.SimultaneousLemmas.{eval-all}
 use Rattle.kid_term.proofs.SortedValue.{sorted-kept}
-use Rattle.kid_scope.specs.Cases.{IsClosed, AllClosed}
-use Rattle.kid_scope.specs.LawInstances.{Contains, AllFree, terms_of, ConcludedAt, sorts_for, LawsOfTheoriesHold}
+use Rattle.kid_scope.specs.Cases.{IsClosed, AllClosed, said_by, LawClosed, LawsClosed}
+use Rattle.kid_scope.specs.LawInstances.{Contains, AllFree, ConcludedAt, sorts_for, LawsOfTheoriesHold}
 use Rattle.kid_scope.specs.Rewriting.{lies_within, all_within}
 use Rattle.kid_scope.specs.Unfolding.{paired}
 use Rattle.kid_scope.proofs.Unfolded.{paired-values, evals-length, as_many}
@@ -36,6 +36,13 @@ one_holds calls x law [] c h = absurd c
 one_holds calls x law (l ∷ ls) c h = elim c [
   | inl e ↦ subst (LawHolds calls x) e h.0
   | inr r ↦ one_holds calls x law ls r h.1
+]
+
+one_closed : (inputs : Names) (law : PlainLaw) (ls : List PlainLaw) → Contains law ls → LawsClosed inputs ls → LawClosed inputs law
+one_closed inputs law [] c h = absurd c
+one_closed inputs law (l ∷ ls) c h = elim c [
+  | inl e ↦ subst (LawClosed inputs) e h.0
+  | inr r ↦ one_closed inputs law ls r h.1
 ]
 
 -- ---- the terms have values of the variables' sorts
@@ -87,7 +94,7 @@ module _ (calls : Calls) (env env' : Env) (vs inputs : Names) (ts : List PlainTe
   put-true [] free closed a = tt
   put-true (c ∷ cs) free closed a = (ap truth_of (sym (put-value c free.0 closed.0)) ∙ a.0, put-true cs free.1 closed.1 a.1)
 
-  put-concluded : (c : PlainConclusion) → AllFree (paired vs ts) (terms_of c) → AllClosed (vs ++ inputs) (terms_of c) → IsConcluded calls at_values c → ConcludedAt calls env (paired vs ts) c
+  put-concluded : (c : PlainConclusion) → AllFree (paired vs ts) (said_by c) → AllClosed (vs ++ inputs) (said_by c) → IsConcluded calls at_values c → ConcludedAt calls env (paired vs ts) c
   put-concluded (equal x y) free closed h = put-value x free.0 closed.0 ∙ h ∙ sym (put-value y free.1.0 closed.1.0)
   put-concluded (holds x) free closed h = ap truth_of (put-value x free.0 closed.0) ∙ h
 
@@ -99,6 +106,7 @@ laws_hold t sc env law ts sound scope met n w a =
     let l = as_many (length ts) (length law.variables) n.counted in
     let m : length (evals calls env (term_row ts)) ≡ length law.variables = evals-length calls env ts ∙ l in
     let h : LawHolds calls x law = one_holds calls x law (t.laws ++ t.axioms) n.stands (all_hold-append calls x t.laws t.axioms (sound.laws x met.case.good) met.case.good.axioms) in
-    put-concluded calls env x law.variables t.signature.inputs ts m met.case.agrees law.conclusion n.conclusion_free n.conclusion_closed
+    let closed = one_closed t.signature.inputs law (t.laws ++ t.axioms) n.stands sound.closed in
+    put-concluded calls env x law.variables t.signature.inputs ts m met.case.agrees law.conclusion n.conclusion_free closed.1
     (h (evals calls env (term_row ts)) (values_fit defs sc.names env sound.definitions scope.allowed met.case.fits law.variables ts l w)
-    (put-true calls env x law.variables t.signature.inputs ts m met.case.agrees law.conditions n.conditions_free n.conditions_closed a))
+    (put-true calls env x law.variables t.signature.inputs ts m met.case.agrees law.conditions n.conditions_free closed.0 a))

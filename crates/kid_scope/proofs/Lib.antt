@@ -1,8 +1,12 @@
+pub mod ClosedSorts
 pub mod ExampleProofs
 pub mod Facts
 pub mod HoldLemmas
 pub mod LawLemmas
+pub mod LawRuleLemmas
+pub mod LiftLemmas
 pub mod Places
+pub mod PutBack
 pub mod RewriteLemmas
 pub mod RuleLemmas
 pub mod SameLemmas

@@ -19,7 +19,7 @@ use Rattle.kid_term.specs.PlainTheory.{PlainTheory}
 use Rattle.kid_scope.specs.Cases.{IsSoundTheory}
 use Rattle.kid_scope.specs.Scope.{PlainScope, scope_at}
 use Rattle.kid_scope.specs.Holds.{holds}
-use Rattle.kid_scope.specs.Rewriting.{PlainInstance, all_within, unless, placed, unmet, unsorted, misfitting, licensed, settled, made}
+use Rattle.kid_scope.specs.Rewriting.{PlainInstance, Rule, all_within, unless, placed, unmet, unsorted, misfitting, licensed, settled, made, rewritten}
 use Rattle.kid_scope.specs.Laws.{RewritingsKeepValues}
 use Rattle.kid_scope.proofs.HoldLemmas.{holds_true}
 use Rattle.kid_scope.proofs.Places.{put_sorted, part_sorted}
@@ -28,11 +28,14 @@ use Rattle.kid_scope.proofs.ScopeLemmas.{Stands, same_at}
 abbrev ok_instance : PlainInstance → Result PlainInstance Why
 ok_instance n = Ok n
 
+abbrev ok_sort : PlainSort → Sorted
+ok_sort s = Ok s
+
 pub staged : {A B : Type 0} (r : Result A Why) (f : A → Result B Why) (y : B) → (r >>= f) ≡ Ok y → (x : A) × (r ≡ Ok x) × (f x ≡ Ok y)
 staged (Ok x) f y p = (x, refl, p)
 staged (Err e) f y p = cc
 
-unless_ok : {A : Type 0} (o : Option Why) (x y : A) → unless o x ≡ Ok y → (o ≡ None) × (x ≡ y)
+pub unless_ok : {A : Type 0} (o : Option Why) (x y : A) → unless o x ≡ Ok y → (o ≡ None) × (x ≡ y)
 unless_ok None x y p = (refl, cc)
 unless_ok (Some w) x y p = cc
 
@@ -40,16 +43,16 @@ pub placed_ok : (o : Option PlainTerm) (t : PlainTerm) → placed o ≡ Ok t →
 placed_ok None t p = cc
 placed_ok (Some u) t p = cc
 
-sorted_ok : (r : Sorted) → unsorted r ≡ None → (s : PlainSort) × (r ≡ Ok s)
+pub sorted_ok : (r : Sorted) → unsorted r ≡ None → (s : PlainSort) × (r ≡ Ok s)
 sorted_ok (Ok s) p = (s, refl)
 sorted_ok (Err f) p = cc
 
-fitting_ok : (b : Bool) → misfitting b ≡ None → b ≡ true
+pub fitting_ok : (b : Bool) → misfitting b ≡ None → b ≡ true
 fitting_ok true p = refl
 fitting_ok false p = cc
 
 -- where no condition is unmet, each holds
-all_hold : (met : PlainTerm → Bool) (k : ℕ) (c : PlainTerm) (cs : List PlainTerm) → unmet met k (c ∷ cs) ≡ None → (met c ≡ true) × (unmet met (suc k) cs ≡ None)
+pub all_hold : (met : PlainTerm → Bool) (k : ℕ) (c : PlainTerm) (cs : List PlainTerm) → unmet met k (c ∷ cs) ≡ None → (met c ≡ true) × (unmet met (suc k) cs ≡ None)
 all_hold met k c cs p = by (met c) refl p
   where
     by : (b : Bool) → met c ≡ b → cond b (unmet met (suc k) cs) (Some (Condition k)) ≡ None → (met c ≡ true) × (unmet met (suc k) cs ≡ None)
@@ -57,7 +60,7 @@ all_hold met k c cs p = by (met c) refl p
     by false e q = cc
 
 -- and is true
-all_true : (t : PlainTheory) (sc : PlainScope) (env : Env) → IsSoundTheory t → Stands t sc env → (k : ℕ) (cs : List PlainTerm) → unmet (holds t.signature.definitions sc) k cs ≡ None
+pub all_true : (t : PlainTheory) (sc : PlainScope) (env : Env) → IsSoundTheory t → Stands t sc env → (k : ℕ) (cs : List PlainTerm) → unmet (holds t.signature.definitions sc) k cs ≡ None
     → AllTrue (calls_of t.signature.definitions) env cs
 all_true t sc env sound st k [] p = tt
 all_true t sc env sound st k (c ∷ cs) p =
@@ -86,3 +89,17 @@ rewritten_keeps rule keeps t sc whole path new s env sound scope met p q =
     (exchange-kept defs sc.names env whole v.0.term path s whole_sorted.0 sound.definitions scope.allowed met.case.fits p whole_sorted.1
     (same_at t (checks_of defs) (calls_fit defs sound.definitions) whole path r.0 v.0.term sc env s (sort_of_ok defs sc.names whole s p).2 there (record { scope = scope; met = met })
     (λ env' st. keeps t inner r.0 v.0 old_sort.0 new_sort.0 env' sound st.scope st.met found old_sort.1 new_sort.1 fit (all_true t inner env' sound st 1 v.0.conditions none))))
+
+-- and has a sort
+pub rewritten-sorted : (rule : Rule) (t : PlainTheory) (sc : PlainScope) (whole : PlainTerm) (path : List ℕ) (new : PlainTerm) → rewritten rule t sc whole path ≡ Ok new
+    → (s : PlainSort) × (sort_of t.signature.definitions sc.names new ≡ Ok s)
+rewritten-sorted rule t sc whole path new p =
+    let defs = t.signature.definitions in
+    let inner = scope_at (latest_first defs) whole path sc in
+    let v = staged (made rule t sc whole path) (λ n. settled defs inner sc.names n (put_at whole path n.term)) new p in
+    let result = put_at whole path v.0.term in
+    let z = staged (unless (unsorted (sort_of defs sc.names result)) result) (λ sorted. unless (misfitting (all_within defs inner.names v.0.within)) sorted) new v.2 in
+    let a = unless_ok (unsorted (sort_of defs sc.names result)) result z.0 z.1 in
+    let b = unless_ok (misfitting (all_within defs inner.names v.0.within)) z.0 new z.2 in
+    let k = sorted_ok (sort_of defs sc.names result) a.0 in
+    (k.0, subst (λ u. sort_of defs sc.names u ≡ ok_sort k.0) (a.1 ∙ b.1) k.1)

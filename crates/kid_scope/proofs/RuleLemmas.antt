@@ -38,7 +38,7 @@ use Rattle.kid_term.specs.PlainTheory.{PlainTheory}
 use Rattle.kid_scope.specs.Same.{same_term}
 use Rattle.kid_scope.specs.Rewriting.{PlainInstance, Rule, KeepsValue, lies_within}
 use Rattle.kid_scope.specs.Instances.{no_match, just, provided, forth_alone}
-use Rattle.kid_scope.specs.Unfolding.{paired, opened, opened_call, opened_in, closed_from, closed_call, fold_forth}
+use Rattle.kid_scope.specs.Unfolding.{paired, opened, opened_call, opened_in, closed_from, closed_call}
 use Rattle.kid_scope.specs.Settling.{computed, is_a_truth, settled_as}
 use Rattle.kid_scope.specs.Using.{nth, fact_at, sides_of, exchanged, used_as, used, use_alone}
 use Rattle.kid_scope.specs.Uncasting.{at_most, length_of, uncast_from, uncast_in}
@@ -111,8 +111,8 @@ module _ (t : PlainTheory) (sound : IsSoundTheory t) (env : Env) where
           just-keeps calls env r.0 (app (call f) ts) n r.2 (body-value f d (terms ts) r.0 e r.1 ∙ ap (λ z. eval calls env (app (call f) z)) (row-terms ts))
   opened_in-keeps old n p = cc
 
-  closed-keeps : (f : List ℕ) (args : List PlainTerm) (old : PlainTerm) (n : PlainInstance) → closed_call (definition_of f t.signature.definitions) f args old ≡ Ok n → Keeps calls env old n
-  closed-keeps f args old n p = by (definition_of f t.signature.definitions) refl p
+  fold-keeps : (f : List ℕ) (back : Bool) (args : List PlainTerm) (old : PlainTerm) (n : PlainInstance) → closed_call back (definition_of f t.signature.definitions) f args old ≡ Ok n → Keeps calls env old n
+  fold-keeps f back args old n p = by back (definition_of f t.signature.definitions) refl p
     where
       with_body : (d : PlainDef) → definition_of f t.signature.definitions ≡ Some d → (r : Result PlainTerm Why) → opened d args ≡ r → closed_from r (app (call f) (term_row args)) old ≡ ok n → Keeps calls env old n
       with_body d e (Err w) g q = cc
@@ -120,13 +120,10 @@ module _ (t : PlainTheory) (sound : IsSoundTheory t) (env : Env) where
           let k = if-ok (same_term body old) (just (app (call f) (term_row args))) n q in
           just-keeps calls env (app (call f) (term_row args)) old n k.1 (sym (body-value f d args body e g) ∙ ap (eval calls env) (same_term-true body old k.0))
 
-      by : (o : Option PlainDef) → definition_of f t.signature.definitions ≡ o → closed_call o f args old ≡ ok n → Keeps calls env old n
-      by None e q = cc
-      by (Some d) e q = with_body d e (opened d args) refl q
-
-  fold-keeps : (f : List ℕ) (back : Bool) (args : List PlainTerm) (old : PlainTerm) (n : PlainInstance) → fold_forth f back args t.signature.definitions old ≡ Ok n → Keeps calls env old n
-  fold-keeps f false args old n p = closed-keeps f args old n p
-  fold-keeps f true args old n p = cc
+      by : (b : Bool) (o : Option PlainDef) → definition_of f t.signature.definitions ≡ o → closed_call b o f args old ≡ ok n → Keeps calls env old n
+      by b None e q = cc
+      by false (Some d) e q = with_body d e (opened d args) refl q
+      by true (Some d) e q = cc
 
 -- ---- compute, holds, fails
 

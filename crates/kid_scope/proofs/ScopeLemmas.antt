@@ -112,7 +112,7 @@ unshadowed_fresh x names a s p = by (is_named x names) refl p
     by false e q = e
 
 -- the name of a sorted binder is not in scope above it
-binder_fresh : (known : List PlainDef) (names : Names) (b : Binder) (x : List ℕ) (u t : PlainTerm) (s : PlainSort) → least_sort known names (bind b x u t) ≡ Ok s → is_named x names ≡ false
+pub binder_fresh : (known : List PlainDef) (names : Names) (b : Binder) (x : List ℕ) (u t : PlainTerm) (s : PlainSort) → least_sort known names (bind b x u t) ≡ Ok s → is_named x names ≡ false
 binder_fresh known names b x u t s p =
     let r = bind_ok (least_sort known names u) (λ set. with_set set (λ e. least_sort known ((x, e) ∷ names) t >>= λ body. binder_sort b e body >>= unshadowed x names)) s p in
     let q = with_set_ok r.0 (λ e. least_sort known ((x, e) ∷ names) t >>= λ body. binder_sort b e body >>= unshadowed x names) s r.2 in

@@ -1,10 +1,11 @@
 -- The environments in which a scope is judged.
-use Rattle.std.specs.Prelude.{◌≡◌, ℕ, true, List, [], ◌∷◌}
+use Rattle.std.specs.Prelude.{◌≡◌, ℕ, true, List, [], ◌∷◌, ◌++◌}
 use Rattle.kid_term.specs.PlainTerm.{PlainTerm}
 use Rattle.kid_term.specs.Names.{Names, is_named}
 use Rattle.kid_term.specs.Eval.{Env, value_at, calls_of}
 use Rattle.kid_term.specs.Fitting.{Fits, AreAllowed, AreSound}
 use Rattle.kid_term.specs.Substitution.{mentions}
+use Rattle.kid_term.specs.PlainLaw.{PlainConclusion, equal, holds, PlainLaw}
 use Rattle.kid_term.specs.PlainTheory.{PlainTheory}
 use Rattle.kid_term.specs.Truths.{AllTrue}
 use Rattle.kid_term.specs.Good.{Good, AllHold}
@@ -39,8 +40,22 @@ pub record Meets (t : PlainTheory) (sc : PlainScope) (env : Env) : Type 0 where
   pub facts : AllTrue (calls_of t.signature.definitions) env sc.facts
   pub assumed : AllTrue (calls_of t.signature.definitions) env sc.assumed
 
--- definitions are sound and differ in their names, and what is proved holds at all good inputs
+-- the terms that a law speaks of
+abbrev pub said_by : PlainConclusion → List PlainTerm
+said_by (equal l r) = l ∷ r ∷ []
+said_by (holds c) = c ∷ []
+
+-- a law names its variables and the inputs alone
+abbrev pub LawClosed : Names → PlainLaw → Type 0
+LawClosed inputs law = AllClosed (law.variables ++ inputs) law.conditions × AllClosed (law.variables ++ inputs) (said_by law.conclusion)
+
+abbrev pub LawsClosed : Names → List PlainLaw → Type 0
+LawsClosed inputs [] = Unit {0}
+LawsClosed inputs (l ∷ ls) = LawClosed inputs l × LawsClosed inputs ls
+
+-- definitions are sound and differ in their names, what is proved holds at all good inputs, and laws and axioms name their variables and the inputs alone
 pub record IsSoundTheory (t : PlainTheory) : Type 0 where
   pub definitions : AreSound t.signature.definitions
   pub distinct : AreDistinct t.signature.definitions
   pub laws : (x : Env) → Good t x → AllHold (calls_of t.signature.definitions) x t.laws
+  pub closed : LawsClosed t.signature.inputs (t.laws ++ t.axioms)

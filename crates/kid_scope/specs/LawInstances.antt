@@ -8,7 +8,7 @@ use Rattle.kid_term.specs.Eval.{Env, Calls, eval, calls_of}
 use Rattle.kid_term.specs.PlainLaw.{PlainConclusion, equal, holds, PlainLaw}
 use Rattle.kid_term.specs.PlainTheory.{PlainTheory}
 use Rattle.kid_term.specs.Truths.{IsTrueAt, AllTrue}
-use Rattle.kid_scope.specs.Cases.{AllClosed, IsSoundTheory, IsScope, Meets}
+use Rattle.kid_scope.specs.Cases.{said_by, IsSoundTheory, IsScope, Meets}
 use Rattle.kid_scope.specs.Rewriting.{all_within}
 use Rattle.kid_scope.specs.Scope.{PlainScope}
 use Rattle.kid_scope.specs.Unfolding.{paired}
@@ -22,10 +22,6 @@ abbrev pub AllFree : Subst → List PlainTerm → Type 0
 AllFree σ [] = Unit {0}
 AllFree σ (t ∷ ts) = (captures_any σ t ≡ false) × AllFree σ ts
 
-abbrev pub terms_of : PlainConclusion → List PlainTerm
-terms_of (equal l r) = l ∷ r ∷ []
-terms_of (holds c) = c ∷ []
-
 -- the conclusion with terms put in
 abbrev pub ConcludedAt : Calls → Env → Subst → PlainConclusion → Type 0
 ConcludedAt calls env σ (equal l r) = eval calls env (substituted σ l) ≡ eval calls env (substituted σ r)
@@ -37,14 +33,12 @@ sorts_for [] ts = []
 sorts_for (v ∷ vs) [] = []
 sorts_for (v ∷ vs) (t ∷ ts) = (t, v.1) ∷ sorts_for vs ts
 
--- a law of the theory with a term for each of its variables, which name those and the inputs alone
+-- a law of the theory with a term for each of its variables, none of whose names would be bound
 pub record IsInstanceOf (t : PlainTheory) (law : PlainLaw) (ts : List PlainTerm) : Type 0 where
   pub stands : Contains law (t.laws ++ t.axioms)
   pub counted : nat_eq (length ts) (length law.variables) ≡ true
   pub conditions_free : AllFree (paired law.variables ts) law.conditions
-  pub conclusion_free : AllFree (paired law.variables ts) (terms_of law.conclusion)
-  pub conditions_closed : AllClosed (law.variables ++ t.signature.inputs) law.conditions
-  pub conclusion_closed : AllClosed (law.variables ++ t.signature.inputs) (terms_of law.conclusion)
+  pub conclusion_free : AllFree (paired law.variables ts) (said_by law.conclusion)
 
 -- where the terms have the sorts of their variables and the conditions are true of them, what the law says is true of them
 abbrev pub LawsOfTheoriesHold : Type 0

@@ -18,7 +18,8 @@ use Rattle.kid_scope.specs.Unfolding.{unfold_call, fold_call}
 use Rattle.kid_scope.specs.Using.{use_fact}
 use Rattle.kid_term.specs.declared.why.Why.{Why}
 use Rattle.kid_scope.specs.Instances.{termwise, KeepsTerms}
-use Rattle.kid_scope.specs.Rewriting.{PlainInstance, Rule, KeepsValue, rewritten}
+use Rattle.kid_scope.specs.LawRules.{Way, StandsFor, by_law, law_conclusion}
+use Rattle.kid_scope.specs.Rewriting.{PlainInstance, Rule, KeepsValue, all_within, rewritten}
 
 -- a condition that holds is true wherever the names have values of their sorts and what may be used is true
 abbrev pub HeldAreTrue : Type 0
@@ -46,3 +47,10 @@ pub record PlaceRulesKeepValues : Type 0 where
 -- a rule that looks at the term alone, and keeps the value wherever both terms have a sort, keeps it in each scope
 abbrev pub TermwiseRulesKeepValues : Type 0
 TermwiseRulesKeepValues = (f : PlainTerm → Result PlainInstance Why) → KeepsTerms f → KeepsValue (termwise f)
+
+-- Rules by laws and axioms of the theory keep the value, with any way to find the terms of the variables at which the side is the term;
+-- and what such a law concludes of terms is true, where they have the sorts of its variables and its conditions are true.
+pub record LawRulesKeepValues : Type 0 where
+  pub rewrites : (m : Way) → StandsFor m → (f : List ℕ) (back : Bool) (args : List PlainTerm) → KeepsValue (by_law m f back args)
+  pub concludes : (f : List ℕ) (ts : List PlainTerm) (t : PlainTheory) (sc : PlainScope) (env : Env) (n : PlainInstance) → law_conclusion f ts t ≡ Ok n → IsSoundTheory t → IsScope t sc → Meets t sc env
+      → all_within t.signature.definitions sc.names n.within ≡ true → AllTrue (calls_of t.signature.definitions) env n.conditions → IsTrueAt (calls_of t.signature.definitions) env n.term

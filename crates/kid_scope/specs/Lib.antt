@@ -5,7 +5,9 @@ pub mod Holds
 pub mod InstanceView
 pub mod Instances
 pub mod LawInstances
+pub mod LawRules
 pub mod Laws
+pub mod Lifted
 pub mod Rewriting
 pub mod RuleExamples
 pub mod Same

@@ -81,6 +81,8 @@ pub record RuleExamples : Type 0 where
   pub folded : gives (fold_call (7 ∷ []) false (a ∷ [])) (sum a a) ≡ just (twice_of a)
   pub other_body : gives (fold_call (7 ∷ []) false (a ∷ [])) (sum a b) ≡ no_match
   pub no_definition : gives (fold_call (9 ∷ []) false (a ∷ [])) (sum a a) ≡ Err UnknownLaw
+  pub folded_back : gives (fold_call (7 ∷ []) true (a ∷ [])) (sum a a) ≡ no_match
+  pub no_definition_back : gives (fold_call (9 ∷ []) true (a ∷ [])) (sum a a) ≡ Err UnknownLaw
   pub would_be_bound : gives (fold_call (8 ∷ []) false (z ∷ [])) (bind binder.All (5 ∷ []) numbers (less z z)) ≡ no_match
   pub computed : gives (compute false []) (twice_of (number (pos 2))) ≡ just (number (pos 4))
   pub free_name : gives (compute false []) (twice_of a) ≡ no_match

@@ -1,5 +1,5 @@
 -- Calls of definitions, opened and closed again.
-use Rattle.std.specs.Prelude.{ℕ, Bool, false, nat_eq, cond, List, [], ◌∷◌, length, Option, Some, None, Result, Ok, Err}
+use Rattle.std.specs.Prelude.{ℕ, Bool, true, false, nat_eq, cond, List, [], ◌∷◌, length, Option, Some, None, Result, Ok, Err}
 use Rattle.kid_term.specs.PlainTerm.{call, PlainTerm, app, terms, term_row}
 use Rattle.kid_term.specs.Names.{Names, PlainDef}
 use Rattle.kid_term.specs.Chain.{◌>>=◌}
@@ -39,13 +39,14 @@ abbrev pub closed_from : Result PlainTerm Why → PlainTerm → PlainTerm → Re
 closed_from (Ok body) new old = cond (same_term body old) (just new) no_match
 closed_from (Err why) new old = no_match
 
-abbrev pub closed_call : Option PlainDef → List ℕ → List PlainTerm → PlainTerm → Result PlainInstance Why
-closed_call None f ts old = Err UnknownLaw
-closed_call (Some d) f ts old = closed_from (opened d ts) (app (call f) (term_row ts)) old
+-- there is no way back; that there is no such definition is said first
+abbrev pub closed_call : Bool → Option PlainDef → List ℕ → List PlainTerm → PlainTerm → Result PlainInstance Why
+closed_call back None f ts old = Err UnknownLaw
+closed_call false (Some d) f ts old = closed_from (opened d ts) (app (call f) (term_row ts)) old
+closed_call true (Some d) f ts old = no_match
 
-abbrev pub fold_forth : List ℕ → Bool → List PlainTerm → List PlainDef → PlainTerm → Result PlainInstance Why
-fold_forth f false args defs old = closed_call (definition_of f defs) f args old
-fold_forth f back args defs old = no_match
+abbrev pub fold_by : List ℕ → Bool → List PlainTerm → List PlainDef → PlainTerm → Result PlainInstance Why
+fold_by f back args defs old = closed_call back (definition_of f defs) f args old
 
 abbrev pub fold_call : List ℕ → Bool → List PlainTerm → Rule
-fold_call f back args = λ t sc old. fold_forth f back args t.signature.definitions old
+fold_call f back args = λ t sc old. fold_by f back args t.signature.definitions old

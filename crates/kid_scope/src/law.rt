@@ -2,7 +2,7 @@
 ghost use Rattle.kid_scope.specs.Examples.{ScopeExamples, RewritingExamples};
 ghost use Rattle.kid_scope.specs.RuleExamples.{RuleExamples};
 ghost use Rattle.kid_scope.specs.LawInstances.{LawsOfTheoriesHold};
-ghost use Rattle.kid_scope.specs.Laws.{HeldAreTrue, PlaceRulesKeepValues, RewritingsKeepValues, TermwiseRulesKeepValues};
+ghost use Rattle.kid_scope.specs.Laws.{HeldAreTrue, LawRulesKeepValues, PlaceRulesKeepValues, RewritingsKeepValues, TermwiseRulesKeepValues};
 
 /// A condition that holds is true wherever what may be used is true.
 pub fn held_are_true()
@@ -30,6 +30,12 @@ pub fn termwise_rules_keep_values()
 /// where these have the variables' sorts and the conditions are true.
 pub fn laws_of_theories_hold()
     ensures { LawsOfTheoriesHold }
+{}
+
+/// The rules by laws and axioms of a theory keep the value, and what such a law concludes of terms
+/// is true.
+pub fn law_rules_keep_values()
+    ensures { LawRulesKeepValues }
 {}
 
 /// Scopes and conditions by example.

@@ -22,5 +22,5 @@ pub use bounds::{lies_at_most, lies_below};
 pub use copies::copied;
 pub use given::{fact_at, same_term, stands_in};
 pub use instance::{Instance, Within, just};
-pub use unfold::{fold_call, unfold_call};
+pub use unfold::{fold_call, paired, unfold_call};
 pub use using::use_fact;

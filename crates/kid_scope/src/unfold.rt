@@ -2,7 +2,6 @@
 ghost use Rattle.std.specs.Prelude.{◌≡◌, IfOk, Ok, map, length, option_map};
 ghost use Rattle.kid_value.specs.NameView.{plain_name};
 ghost use Rattle.kid_term.specs.DefView.{plain_def};
-ghost use Rattle.kid_term.specs.Definition.{definition_of};
 ghost use Rattle.kid_term.specs.PlainTerm.{app, call, term_row};
 ghost use Rattle.kid_term.specs.TermView.{plain_term};
 ghost use Rattle.kid_scope.specs.InstanceView.{TermGiven, InstanceGiven};
@@ -16,7 +15,11 @@ use kid_value::{Memory, Text};
 use std::alloc::Global;
 
 /// Each parameter with its argument.
-fn paired(
+///
+/// # Errors
+///
+/// Fails where memory is wanting.
+pub fn paired(
     alloc: Global,
     parameters: &[(Text, kid_value::Sort)],
     args: &[Term],
@@ -132,20 +135,25 @@ fn closed_with(
 ///
 /// # Errors
 ///
-/// `UnknownLaw` exactly where there is no such definition, `NoMatch` exactly where it takes another
-/// number of arguments, a name of an argument would be bound in the body, or the term is another,
-/// and `Memory` where memory is wanting.
+/// `UnknownLaw` exactly where there is no such definition; `NoMatch` exactly where else it is wanted
+/// backwards, or the definition takes another number of arguments, a name of an argument would be
+/// bound in the body, or the term is another; and `Memory` where memory is wanting.
 pub fn fold_call(
     alloc: Global,
     defs: &Defs,
     name: &Text,
+    back: bool,
     args: &Terms,
     term: &Term,
 ) -> Result<Instance, Why>
-    ensures { InstanceGiven result (spec.closed_call (definition_of name.now defs.now) name.now args.now (plain_term term.now)) }
+    ensures { InstanceGiven result (spec.fold_by name.now back args.now defs.now (plain_term term.now)) }
 {
     match defs.find(name) {
         None => Err(Why::UnknownLaw),
-        Some(def) => closed_with(alloc, def, name, args, term),
+        Some(def) => if back {
+            Err(Why::NoMatch)
+        } else {
+            closed_with(alloc, def, name, args, term)
+        },
     }
 }

@@ -55,22 +55,27 @@ fn folded_in(
     alloc: Global,
     defs: Option<Defs>,
     name: Option<Text>,
+    back: bool,
     args: Option<Terms>,
     term: Option<Term>,
 ) -> Given {
     match (defs, name, args, term) {
         (Some(defs), Some(name), Some(args), Some(term)) => {
-            Some(fold_call(alloc, &defs, &name, &args, &term))
+            Some(fold_call(alloc, &defs, &name, back, &args, &term))
         }
         _ => None,
     }
 }
 
-fn folded(alloc: Global, body: &str, letter: u8, args: &str, it: &str) -> Given {
+fn turned(alloc: Global, body: &str, letter: u8, back: bool, args: &str, it: &str) -> Given {
     let defs = defined(alloc, body);
     let name = named(alloc, letter);
     let args = terms_of(alloc, args);
-    folded_in(alloc, defs, name, args, term_of(alloc, it))
+    folded_in(alloc, defs, name, back, args, term_of(alloc, it))
+}
+
+fn folded(alloc: Global, body: &str, letter: u8, args: &str, it: &str) -> Given {
+    turned(alloc, body, letter, false, args, it)
 }
 
 // the body of f of x, a term, and what it is opened to
@@ -126,4 +131,14 @@ fn closes_nothing(rt: HostRuntime) {
     assert!(&rt; is_refused(bound, Why::NoMatch), "z would be bound");
     let two = folded(rt.alloc(), "+xx", b'f', "ab", "+aa");
     assert!(&rt; is_refused(two, Why::NoMatch), "two arguments");
+}
+
+#[test]
+fn closes_nothing_back(rt: HostRuntime) {
+    let body = turned(rt.alloc(), "+xx", b'f', true, "a", "+aa");
+    assert!(&rt; is_refused(body, Why::NoMatch), "the body");
+    let call = turned(rt.alloc(), "+xx", b'f', true, "a", "@fa");
+    assert!(&rt; is_refused(call, Why::NoMatch), "the call");
+    let unknown = turned(rt.alloc(), "+xx", b'g', true, "a", "+aa");
+    assert!(&rt; is_refused(unknown, Why::UnknownLaw), "no definition");
 }

@@ -9,3 +9,5 @@ mod calls;
 mod facts;
 #[cfg(test)]
 mod notation;
+#[cfg(test)]
+mod pairs;
