@@ -99,7 +99,7 @@ module _ (xs : List (List ℕ)) where
       by None e false f = let q = h.1 x f in (k.0 ∙ sym (ap (or_itself x) q), k.1, λ m. cc)
 
   mutual
-    later : (p t : PlainTerm) (bs : List (List ℕ)) (σ τ : Subst) → Step xs σ τ → Stands bs σ p t → Stands bs τ p t
+    pub later : (p t : PlainTerm) (bs : List (List ℕ)) (σ τ : Subst) → Step xs σ τ → Stands bs σ p t → Stands bs τ p t
     later (var x) t bs σ τ h k = name-later bs σ τ x t (is_among x bs) h k
     later (number n) t bs σ τ h k = k
     later (truth b) t bs σ τ h k = k

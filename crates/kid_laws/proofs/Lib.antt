@@ -1,3 +1,5 @@
+pub mod AppliedTrue
+pub mod ApplyLemmas
 pub mod FoundLemmas
 pub mod GroupLemmas
 pub mod KindLemmas

@@ -17,12 +17,12 @@ use Rattle.kid_term.specs.Sorting.{least_sort, least_sorts, head_sort}
 use Rattle.kid_term.specs.Written.{written}
 use Rattle.kid_term.specs.Fitting.{Fits, AreAllowed, AreSound}
 use Rattle.kid_term.specs.Small.{checks_of}
+use Rattle.kid_term.specs.Truths.{AllTrue}
 use Rattle.kid_term.proofs.EvalLemmas.{same_name-true}
 use Rattle.kid_term.proofs.Inversions.{bind_ok}
 use Rattle.kid_term.proofs.SimultaneousLemmas.{eval-put}
 use Rattle.kid_term.proofs.SortedValue.{calls_fit, all_evaluate}
 use Rattle.kid_laws.specs.Law.{Law}
-use Rattle.kid_laws.specs.Laws.{AllTrue}
 use Rattle.kid_laws.specs.Lawful.{Kind, anys, bools, ints, sets, seqs, maps, kinded, is_side, are_sides, takes, same_kind, is_name, stands, stands_among, is_told, names_of, is_lawful}
 use Rattle.kid_laws.specs.Truth.{EachOf, ForAll, Given, IsTrue}
 use Rattle.kid_laws.proofs.KindLemmas.{Has, Have, op_met}

@@ -214,7 +214,7 @@ module _ (xs : List (List ℕ)) (τ : Subst) where
       same-all ps bs (λ z m. g z (or_right (mentions z p) _ m)) (λ x n. (or_none (captures x (term_for x τ) p) _ (f x n)).1) (λ z m. k z (or_right (mentions z p) _ m)),
     )
 
-matches : (xs : List (List ℕ)) (p t : PlainTerm) (σ τ : Subst) → Step xs σ τ → Stands xs [] τ p t → Matches xs p t σ τ
+pub matches : (xs : List (List ℕ)) (p t : PlainTerm) (σ τ : Subst) → Step xs σ τ → Stands xs [] τ p t → Matches xs p t σ τ
 matches xs p t σ τ h k =
     record {
       extends = h.0;

@@ -2,6 +2,7 @@
 use Rattle.std.proofs.Common.{◌≡◌, Bool, true, false, List, [], ◌∷◌, refl, ap, ◌∙◌, map, Bor}
 use Rattle.kid_term.specs.PlainTerm.{PlainTerm}
 use Rattle.kid_laws.specs.Law.{one, two, three}
+use Rattle.kid_laws.specs.Applied.{PlainApplied, put_in}
 use Rattle.kid_laws.specs.Instances.{PlainInstance, filled}
 use Rattle.kid_term.specs.Simultaneous.{Subst, substituted}
 use Rattle.kid_laws.specs.Steps.{first_term, other_terms, headed, spelled, term_of, plain_row}
@@ -61,3 +62,11 @@ back_again σ r false cs t u b p q e = cc
 back_again σ r true cs t u b p q e =
     let f = p ∙ terms_of-put σ r.conditions.now in let g = q ∙ term_of-put σ r.left.now in let h = e ∙ term_of-put σ r.right.now in
     λ i. instance_from (f i) (h i) (g i)
+
+abbrev applied_from : List PlainTerm → PlainTerm → PlainApplied
+applied_from cs t = record { conditions = cs; term = t }
+
+-- the conditions of a row and some heads, with terms put in
+pub put_row : (σ : Subst) (r : Row) (side : List Step) (cs : List PlainTerm) (t : PlainTerm) → cs ≡ map (λ c. term_of σ c.now) r.conditions.now → t ≡ term_of σ side
+    → applied_from cs t ≡ put_in (plain_row r) (term_of [] side) σ
+put_row σ r side cs t p q = let f = p ∙ terms_of-put σ r.conditions.now in let g = q ∙ term_of-put σ side in λ i. applied_from (f i) (g i)

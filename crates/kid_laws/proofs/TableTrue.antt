@@ -1,14 +1,15 @@
 -- Each law of the table is true, and so are its instances.
-use Rattle.std.proofs.Common.{◌≡◌, ℕ, zero, suc, true, List, [], ◌∷◌, ◌++◌, Some, None, Option, refl, ap, ◌∙◌, sym, subst}
+use Rattle.std.proofs.Common.{◌≡◌, ℕ, zero, suc, Bool, true, false, List, [], ◌∷◌, ◌++◌, Some, None, Option, refl, ap, ◌∙◌, sym, subst}
 use Rattle.std.specs.List.{list_all}
 use Rattle.kid_value.proofs.SortLemmas.{and_parts}
+use Rattle.kid_term.specs.PlainTerm.{PlainTerm, var, number, truth, tag, app, bind}
 use Rattle.kid_term.specs.Eval.{Env, Calls, calls_of}
 use Rattle.kid_term.specs.Simultaneous.{substituted}
 use Rattle.kid_term.proofs.SortedValue.{sort_of_ok}
 use Rattle.kid_laws.specs.Law.{Law}
 use Rattle.kid_laws.specs.Laws.{InstancesAreTrue}
 use Rattle.kid_laws.specs.Lawful.{is_lawful}
-use Rattle.kid_laws.specs.Table.{laws_of, law_at, first_equations, second_equations, third_equations, fourth_equations, first_implications, second_implications}
+use Rattle.kid_laws.specs.Table.{laws_of, law_at, implications, first_equations, second_equations, third_equations, fourth_equations, first_implications, second_implications}
 use Rattle.kid_laws.specs.Truth.{IsTrue, AreTrue}
 use Rattle.kid_laws.specs.declared.kind.LawKind.{LawKind}
 use Rattle.kid_laws.specs.declared.kind.LawKind.TheVariants.{Equation, Implication}
@@ -62,12 +63,13 @@ none_at l e = cc
 one_law : (l k : Law) → Some l ≡ Some k → l ≡ k
 one_law l k e = cc
 
-lawful_at : (ls : List Law) (i : ℕ) (l : Law) → list_all is_lawful ls ≡ true → law_at ls i ≡ Some l → is_lawful l ≡ true
-lawful_at [] zero l h e = absurd (none_at l e)
-lawful_at [] (suc i) l h e = absurd (none_at l e)
-lawful_at (k ∷ ls) zero l h e = absurd (none_at l e)
-lawful_at (k ∷ ls) (suc zero) l h e = ap is_lawful (sym (one_law k l e)) ∙ (and_parts (is_lawful k) (list_all is_lawful ls) h).0
-lawful_at (k ∷ ls) (suc (suc i)) l h e = lawful_at ls (suc i) l (and_parts (is_lawful k) (list_all is_lawful ls) h).1 e
+-- what a test says of each law of a list
+passed_at : (f : Law → Bool) (ls : List Law) (i : ℕ) (l : Law) → list_all f ls ≡ true → law_at ls i ≡ Some l → f l ≡ true
+passed_at f [] zero l h e = absurd (none_at l e)
+passed_at f [] (suc i) l h e = absurd (none_at l e)
+passed_at f (k ∷ ls) zero l h e = absurd (none_at l e)
+passed_at f (k ∷ ls) (suc zero) l h e = ap f (sym (one_law k l e)) ∙ (and_parts (f k) (list_all f ls) h).0
+passed_at f (k ∷ ls) (suc (suc i)) l h e = passed_at f ls (suc i) l (and_parts (f k) (list_all f ls) h).1 e
 
 true_at : (calls : Calls) (base : Env) (ls : List Law) (i : ℕ) (l : Law) → AreTrue calls base ls → law_at ls i ≡ Some l → IsTrue calls base l
 true_at calls base [] zero l h e = absurd (none_at l e)
@@ -77,6 +79,28 @@ true_at calls base (k ∷ ls) (suc zero) l h e = subst (IsTrue calls base) (one_
 true_at calls base (k ∷ ls) (suc (suc i)) l h e = true_at calls base ls (suc i) l h.1 e
 
 pub instances_true : InstancesAreTrue
-instances_true kind number l σ defs names env s s' at sound allowed fits e f h =
-    instance_true defs names env sound allowed fits σ l s s' (lawful_at (laws_of kind) number l (is_lawful_each kind) at) (true_at (calls_of defs) env (laws_of kind) number l (laws_true kind (calls_of defs) env) at)
+instances_true kind n l σ defs names env s s' at sound allowed fits e f h =
+    instance_true defs names env sound allowed fits σ l s s' (passed_at is_lawful (laws_of kind) n l (is_lawful_each kind) at) (true_at (calls_of defs) env (laws_of kind) n l (laws_true kind (calls_of defs) env) at)
     (sort_of_ok defs names (substituted σ l.left) s e).2 (sort_of_ok defs names (substituted σ l.right) s' f).2 h
+
+-- ---- the right side of an implication
+
+is_true_term : PlainTerm → Bool
+is_true_term (truth b) = b
+is_true_term t = false
+
+the_true_term : (t : PlainTerm) → is_true_term t ≡ true → t ≡ truth true
+unfolding is_true_term
+the_true_term (var x) e = cc
+the_true_term (number n) e = cc
+the_true_term (truth b) e = ap truth e
+the_true_term (tag x) e = cc
+the_true_term (app h ts) e = cc
+the_true_term (bind b x t u) e = cc
+
+is_true_each : list_all (λ l. is_true_term l.right) implications ≡ true
+unfolding first_implications second_implications is_true_term
+is_true_each = refl
+
+pub conclusion_true : (n : ℕ) (l : Law) → law_at implications n ≡ Some l → l.right ≡ truth true
+conclusion_true n l at = the_true_term l.right (passed_at (λ k. is_true_term k.right) implications n l is_true_each at)

@@ -1,6 +1,6 @@
 -- For the code that finds a match.
-use Rattle.std.proofs.Common.{◌≡◌, ℕ, Bool, true, false, List, [], Some, None, refl, sym, ap, ◌∙◌}
-use Rattle.std.specs.Prelude.{IsTrue, ◌↔◌, ◌&&◌}
+use Rattle.std.proofs.Common.{◌≡◌, ℕ, Bool, true, false, List, [], Option, None, Result, Ok, Err, refl, sym, ap, ◌∙◌}
+use Rattle.std.specs.Prelude.{IfOk, IsTrue, ◌↔◌, ◌&&◌}
 use Rattle.kid_term.specs.PlainTerm.{PlainHead, PlainTerm, var, truth, app, bind, PlainTerms}
 use Rattle.kid_term.specs.TermView.{plain_literal}
 use Rattle.kid_term.specs.Simultaneous.{Subst}
@@ -77,9 +77,7 @@ bind-literal bs xs b y p q (literal.Int n) σ = refl
 bind-literal bs xs b y p q (literal.Bool c) σ = refl
 bind-literal bs xs b y p q (literal.Tag n) σ = refl
 
--- what is found from a copy of the terms that stood before
-pub some-match : (xs : List (List ℕ)) (p t : PlainTerm) (σ ρ τ : Subst) (b : Bool) → ρ ≡ σ → found [] xs p t ρ ≡ kept b τ → b ≡ true → IsMatchOf xs p t σ (Some τ)
-some-match xs p t σ ρ τ b e f g = found-exact xs p t σ (Some τ) (ap (found [] xs p t) (sym e) ∙ f ∙ ap (λ c. kept c τ) g)
-
-pub no-match : (xs : List (List ℕ)) (p t : PlainTerm) (σ ρ τ : Subst) (b : Bool) → ρ ≡ σ → found [] xs p t ρ ≡ kept b τ → b ≡ false → IsMatchOf xs p t σ None
-no-match xs p t σ ρ τ b e f g = found-exact xs p t σ None (ap (found [] xs p t) (sym e) ∙ f ∙ ap (λ c. kept c τ) g)
+-- what is found from a copy of the terms that stood before is the match
+pub found_matches : {E : Type 0} (xs : List (List ℕ)) (p t : PlainTerm) (σ ρ : Subst) (r : Result (Option Subst) E) → ρ ≡ σ → IfOk r (λ o. o ≡ found [] xs p t ρ) → IfOk r (λ o. IsMatchOf xs p t σ o)
+found_matches xs p t σ ρ (Ok o) e h = found-exact xs p t σ o (ap (found [] xs p t) (sym e) ∙ sym h)
+found_matches xs p t σ ρ (Err x) e h = tt

@@ -8,8 +8,8 @@ use Rattle.kid_term.specs.Eval.{Env, eval, calls_of}
 use Rattle.kid_term.specs.Sorting.{sort_of}
 use Rattle.kid_term.specs.Fitting.{Fits, AreAllowed, AreSound}
 use Rattle.kid_term.specs.Simultaneous.{Subst, term_at, substituted}
+use Rattle.kid_term.specs.Truths.{AllTrue}
 use Rattle.kid_laws.specs.Law.{Law}
-use Rattle.kid_laws.specs.Laws.{AllTrue}
 use Rattle.kid_laws.specs.Table.{laws_of, law_at}
 use Rattle.kid_laws.specs.declared.kind.LawKind.{LawKind}
 use Rattle.kid_laws.specs.declared.parts.Instance.{Instance}

@@ -1,20 +1,15 @@
 -- What holds of all laws.
-use Rattle.std.specs.Prelude.{◌≡◌, ℕ, true, List, [], ◌∷◌, Some, Ok, map}
+use Rattle.std.specs.Prelude.{◌≡◌, ℕ, List, Some, Ok, map}
 use Rattle.kid_value.specs.PlainSort.{PlainSort}
-use Rattle.kid_value.specs.Rows.Parts.{truth_of}
-use Rattle.kid_term.specs.PlainTerm.{PlainTerm}
 use Rattle.kid_term.specs.Names.{Names, PlainDef}
-use Rattle.kid_term.specs.Eval.{Env, Calls, eval, calls_of}
+use Rattle.kid_term.specs.Eval.{Env, eval, calls_of}
 use Rattle.kid_term.specs.Sorting.{sort_of}
 use Rattle.kid_term.specs.Fitting.{Fits, AreAllowed, AreSound}
 use Rattle.kid_term.specs.Simultaneous.{Subst, substituted}
+use Rattle.kid_term.specs.Truths.{AllTrue}
 use Rattle.kid_laws.specs.Law.{Law}
 use Rattle.kid_laws.specs.Table.{laws_of, law_at}
 use Rattle.kid_laws.specs.declared.kind.LawKind.{LawKind}
-
-abbrev pub AllTrue : Calls → Env → List PlainTerm → Type 0
-AllTrue calls env [] = Unit {0}
-AllTrue calls env (c ∷ cs) = (truth_of (eval calls env c) ≡ true) × AllTrue calls env cs
 
 -- each instance of a law of the table whose sides have sorts and whose conditions are true has sides of one value
 abbrev pub InstancesAreTrue : Type 0

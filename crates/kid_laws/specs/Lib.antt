@@ -16,3 +16,5 @@ pub mod Matching
 pub mod Same
 pub mod Found
 pub mod BoundView
+pub mod Applied
+pub mod Applying

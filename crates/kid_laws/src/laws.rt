@@ -41,7 +41,7 @@ fn has_all(letters: &[u8], subst: &Subst) -> bool
 }
 
 /// The conditions with terms put in.
-fn conditions(alloc: Global, rows: &[&[Step]], subst: &Subst) -> Result<Terms, Memory>
+pub(crate) fn conditions(alloc: Global, rows: &[&[Step]], subst: &Subst) -> Result<Terms, Memory>
     ensures { IfOk result (λ ts. ts ≡ map (λ c. term_of subst.now c.now) rows.now) }
 {
     let mut terms = Terms::new(alloc);
@@ -133,7 +133,8 @@ pub fn implication(alloc: Global, law: u8, subst: &Subst) -> Result<Instance, La
     instance_of(alloc, LawKind::Implication, law, false, subst)
 }
 
-fn names(alloc: Global, letters: &[u8]) -> Result<Texts, Memory>
+/// The letters as names.
+pub(crate) fn names(alloc: Global, letters: &[u8]) -> Result<Texts, Memory>
     ensures { IfOk result (λ ts. ts ≡ map (λ x. x ∷ []) letters.now) }
 {
     let mut texts = Texts::new(alloc);

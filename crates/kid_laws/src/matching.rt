@@ -1,5 +1,5 @@
 //! The least terms for the variables of a pattern with which it is a term.
-ghost use Rattle.std.specs.Prelude.{◌≡◌, ◌↔◌, IfOk, None, IsTrue, map, option_map};
+ghost use Rattle.std.specs.Prelude.{◌≡◌, ◌↔◌, [], IfOk, None, IsTrue, map, option_map};
 ghost use Rattle.kid_value.specs.NameSet.{is_among};
 ghost use Rattle.kid_term.specs.PlainTerm.{term_row, var};
 ghost use Rattle.kid_term.specs.SubstView.{plain_pair};
@@ -224,6 +224,25 @@ fn copied(alloc: Global, items: &[(Text, Term)]) -> Result<Subst, Memory>
     Ok(copy)
 }
 
+/// The least terms for the variables with which the pattern is the term, beside those that were
+/// found before.
+pub(crate) fn find(
+    alloc: Global,
+    pattern: &Term,
+    variables: &Texts,
+    term: &Term,
+    before: Subst,
+) -> Result<Option<Subst>, Memory>
+    ensures { IfOk result (λ o. o ≡ spec.found [] variables.now (plain_term pattern.now) (plain_term term.now) before) }
+{
+    let mut found = before;
+    if walk(alloc, &Bound::Nothing, variables, pattern, term, &mut found)? {
+        Ok(Some(found))
+    } else {
+        Ok(None)
+    }
+}
+
 /// The least terms for the variables with which the pattern is the term, beside those that the
 /// substitution has; other names stand for themselves. A binder has to have the name that it has
 /// in the pattern, and no name of a term that is put in may be bound.
@@ -242,10 +261,6 @@ pub fn match_term(
 ) -> Result<Option<Subst>, Memory>
     ensures { IfOk result (λ o. IsMatchOf variables.now (plain_term pattern.now) (plain_term term.now) subst.now o) }
 {
-    let mut found = copied(alloc, subst.items())?;
-    if walk(alloc, &Bound::Nothing, variables, pattern, term, &mut found)? {
-        Ok(Some(found))
-    } else {
-        Ok(None)
-    }
+    let before = copied(alloc, subst.items())?;
+    find(alloc, pattern, variables, term, before)
 }

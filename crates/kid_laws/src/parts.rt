@@ -15,6 +15,17 @@ pub enum LawFault {
     Memory,
 }
 
+/// Why a law makes nothing of a term, or says nothing of terms.
+#[derive(Clone, Copy, Debug, PartialEq, Eq, Error)]
+pub enum ApplyFault {
+    #[error("there is no such law")]
+    NoLaw,
+    #[error("the term is no instance, or there is another number of arguments")]
+    NoMatch,
+    #[error("out of memory")]
+    Memory,
+}
+
 /// A law with terms put in for its variables.
 #[derive(Drop)]
 pub struct Instance {
@@ -30,4 +41,11 @@ pub struct Pattern {
     pub conditions: Terms,
     pub left: Term,
     pub right: Term,
+}
+
+/// What a law makes of a term or says of terms, where the conditions are true.
+#[derive(Drop)]
+pub struct Applied {
+    pub conditions: Terms,
+    pub term: Term,
 }

@@ -230,8 +230,18 @@ fn all_of(alloc: Global, pile: Option<Vec<Term>>) -> Option<Terms> {
     taken(alloc, &mut pile, count)
 }
 
+/// The term that the text spells.
+pub fn single(alloc: Global, text: &str) -> Option<Term> {
+    last_of(piled(alloc, text))
+}
+
+/// The terms that the text spells one behind the other.
+pub fn terms(alloc: Global, text: &str) -> Option<Terms> {
+    all_of(alloc, piled(alloc, text))
+}
+
 /// The names, one for each letter.
-fn letters(alloc: Global, names: &str) -> Option<Texts> {
+pub fn letters(alloc: Global, names: &str) -> Option<Texts> {
     let mut texts = Texts::new(alloc);
     for letter in names.as_bytes() {
         texts.push(Text::from_slice(alloc, &[*letter]).ok()?).ok()?;
@@ -268,7 +278,7 @@ pub fn lacking(alloc: Global, names: &str, terms: &str) -> Option<Subst> {
 
 /// Whether the text spells the term.
 pub fn is_spelled(alloc: Global, found: &Term, want: &str) -> bool {
-    match last_of(piled(alloc, want)) {
+    match single(alloc, want) {
         Some(want) => same(found, &want),
         None => false,
     }
@@ -288,7 +298,7 @@ fn are_same(found: &[Term], want: &[Term]) -> bool {
 
 /// Whether the text spells the terms, one behind the other.
 pub fn are_spelled(alloc: Global, found: &Terms, want: &str) -> bool {
-    match all_of(alloc, piled(alloc, want)) {
+    match terms(alloc, want) {
         Some(want) => are_same(found.items(), want.items()),
         None => false,
     }
@@ -352,8 +362,8 @@ pub fn matched(
     names: &str,
     terms: &str,
 ) -> Option<Option<Subst>> {
-    let pattern = last_of(piled(alloc, pattern));
-    let term = last_of(piled(alloc, term));
+    let pattern = single(alloc, pattern);
+    let term = single(alloc, term);
     with_all(
         alloc,
         pattern,
