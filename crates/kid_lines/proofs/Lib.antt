@@ -1,0 +1,4 @@
+pub mod LinesRead
+pub mod ListLemmas
+pub mod MovesRead
+pub mod RulesRead

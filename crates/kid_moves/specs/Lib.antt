@@ -1,0 +1,4 @@
+pub mod MoveView
+pub mod PlainRule
+pub mod RuleCode
+pub mod RuleView
