@@ -10,7 +10,6 @@ pub mod FactLemmas
 pub mod JudgingLemmas
 pub mod KeepingLemmas
 pub mod KeyLemmas
-pub mod PartLemmas
 pub mod PlacedLemmas
 pub mod SoundTheory
 pub mod StartLemmas

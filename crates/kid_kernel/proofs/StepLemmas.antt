@@ -35,7 +35,8 @@ use Rattle.kid_scope.proofs.Truths.{AllTrue-append, both_true}
 use Rattle.kid_kernel.specs.FactAnswers.{PushedOn, Stepped}
 use Rattle.kid_kernel.specs.Held.{AllSorted, LawsHold, Held, HeldOver}
 use Rattle.kid_kernel.specs.Key.{key}
-use Rattle.kid_kernel.specs.Moves.{both, untrue, truth_term, found, given, conjuncts_of, parted, given_parts, moved, stepped}
+use Rattle.kid_kernel.specs.Comparing.{conjuncts}
+use Rattle.kid_kernel.specs.Moves.{both, untrue, truth_term, found, given, parted, given_parts, moved, stepped}
 use Rattle.kid_kernel.specs.Placed.{top_scope}
 use Rattle.kid_kernel.specs.PlainFacts.{PlainFacts}
 use Rattle.kid_moves.specs.PlainRule.{PlainRule, PlainLine, PlainMove, left_of, right_of, both_of, again, concluded_by, after_lines}
@@ -142,7 +143,7 @@ abbrev second_or : PlainTerm → Option (PlainTerm × PlainTerm) → PlainTerm
 second_or t None = t
 second_or t (Some p) = p.1
 
-conjuncts_ok : (t a b : PlainTerm) → conjuncts_of t ≡ Some (a, b) → t ≡ both a b
+conjuncts_ok : (t a b : PlainTerm) → conjuncts t ≡ Some (a, b) → t ≡ both a b
 conjuncts_ok (app (op (Logic And)) (term x (term y no_term))) a b p = let e : x ≡ a = ap (first_or x) p in let f : y ≡ b = ap (second_or y) p in λ i. both (e i) (f i)
 conjuncts_ok t a b p = cc
 
@@ -151,8 +152,8 @@ parts_went a b = Ok (a, b)
 
 parts_ok : (facts : List PlainTerm) (k : ℕ) (a b : PlainTerm) → given_parts facts k ≡ Ok (a, b) → given facts k ≡ Ok (both a b)
 parts_ok facts k a b p =
-    let r = staged (given facts k) (λ t. parted (conjuncts_of t)) (a, b) p in
-    r.1 ∙ ap went (conjuncts_ok r.0 a b (by (conjuncts_of r.0) r.2))
+    let r = staged (given facts k) (λ t. parted (conjuncts t)) (a, b) p in
+    r.1 ∙ ap went (conjuncts_ok r.0 a b (by (conjuncts r.0) r.2))
   where
     by : (o : Option (PlainTerm × PlainTerm)) → parted o ≡ parts_went a b → o ≡ Some (a, b)
     by None q = cc

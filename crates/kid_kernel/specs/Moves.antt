@@ -13,6 +13,7 @@ use Rattle.kid_term.specs.declared.why.Why.{Why}
 use Rattle.kid_term.specs.declared.why.Why.TheVariants.{NoMatch, IllSorted}
 use Rattle.kid_scope.specs.Rewriting.{why_of, unless}
 use Rattle.kid_scope.specs.Using.{fact_at}
+use Rattle.kid_kernel.specs.Comparing.{conjuncts}
 use Rattle.kid_kernel.specs.Placed.{top_scope}
 use Rattle.kid_kernel.specs.PlainFacts.{PlainFacts}
 use Rattle.kid_moves.specs.PlainRule.{PlainMove, left_of, right_of, both_of, again, concluded_by, after_lines}
@@ -48,16 +49,12 @@ found (Some t) = Ok t
 abbrev pub given : List PlainTerm → ℕ → Result PlainTerm Why
 given facts k = found (fact_at facts k)
 
-abbrev pub conjuncts_of : PlainTerm → Option (PlainTerm × PlainTerm)
-conjuncts_of (app (op (Logic And)) (term a (term b no_term))) = Some (a, b)
-conjuncts_of t = None
-
 abbrev pub parted : Option (PlainTerm × PlainTerm) → Result (PlainTerm × PlainTerm) Why
 parted None = Err NoMatch
 parted (Some p) = Ok p
 
 abbrev pub given_parts : List PlainTerm → ℕ → Result (PlainTerm × PlainTerm) Why
-given_parts facts k = given facts k >>= λ t. parted (conjuncts_of t)
+given_parts facts k = given facts k >>= λ t. parted (conjuncts t)
 
 -- ---- moves
 

@@ -1,10 +1,11 @@
 //! Theories, and a small kernel by which their laws are proved.
 //!
-//! Rooms: `law`, `theory`, `sorted` (laws, axioms and theories); `scope`, `judging`, `holding` (what
-//! may be used at a place, sorts there, and conditions that hold there); `stated`, `by_law`,
-//! `by_table`, `by_place`, `settling`, `uncasting`, `arguments` (what each rule makes of a term);
-//! `equal`, `line`, `conditions`, `rewriting` (rules of equal value, and a subterm rewritten by one);
-//! `concluding` (terms after lines, and conclusions).
+//! Rooms: `law`, `theory`, `sorted`, `example` (laws, axioms and theories); `scope`, `judging`,
+//! `comparing`, `evaluating`, `holding` (what may be used at a place, sorts and values there, and
+//! conditions that hold there); `stated`, `by_law`, `by_table`, `by_place`, `settling`, `uncasting`,
+//! `arguments` (what each rule makes of a term); `equal`, `line`, `conditions`, `rewriting` (rules of
+//! equal value, and a subterm rewritten by one); `concluding` (terms after lines, and conclusions);
+//! `start`, `parts`, `moving`, `facts`, `over_facts` (facts, moves, and rewriting over facts).
 #![tactic(auto)]
 
 mod arguments;
@@ -41,5 +42,6 @@ pub use kid_moves::{Line, Lines, Move, Moves, Rule};
 pub use kid_term::{RefineForm, Spec, Why};
 pub use law::{Axiom, Axioms, Conclusion, Law, Laws};
 pub use over_facts::rewrite;
+pub use scope::Scope;
 pub use sorted::is_sorted_axiom;
 pub use theory::Theory;

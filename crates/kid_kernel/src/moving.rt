@@ -14,8 +14,9 @@ ghost use Rattle.kid_moves.specs.RuleView.{plain_line};
 ghost use Rattle.kid_kernel.specs.Rules.{lines_rewritten};
 ghost use Rattle.kid_kernel.specs.TheoryView.{plain_theory};
 
+use crate::comparing::conjuncts;
 use crate::concluding::{concluded, rewrite_line};
-use crate::parts::{conjuncts, copied, joined};
+use crate::parts::{copied, joined};
 use crate::theory::Theory;
 use kid_moves::{Line, Lines, Move};
 use kid_scope::fact_at;

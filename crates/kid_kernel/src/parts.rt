@@ -1,35 +1,15 @@
-//! Conjunctions and their parts, and lists of facts.
-ghost use Rattle.std.specs.Prelude.{◌≡◌, ◌≢◌, ◌<◌, ◌^◌, ◌∷◌, [], MatchOption, IfOk, OnOk, Ok, map, length};
+//! Conjunctions, and facts added to others.
+ghost use Rattle.std.specs.Prelude.{◌≡◌, ◌<◌, ◌^◌, IfOk, OnOk, Ok, length};
 ghost use Rattle.kid_term.specs.TermView.{plain_term};
 ghost use Rattle.kid_scope.specs.InstanceView.{TermGiven};
 ghost use Rattle.kid_kernel.specs.FactAnswers.{PushedOn};
-ghost use Rattle.kid_kernel.specs.Moves.{conjuncts_of, both as both_of, truth_term};
+ghost use Rattle.kid_kernel.specs.Moves.{both as both_of, truth_term};
 
 use crate::start::truth;
 use crate::theory::Theory;
 use kid_term::{Head, LogicOp, Op, Term, Terms, Why};
 use kid_value::{Memory, Names};
 use std::alloc::Global;
-
-fn couple(terms: &[Term]) -> Option<(&Term, &Term)>
-    ensures { MatchOption result (length terms.now ≢ 2) (λ p. terms.now ≡ p.0.now ∷ p.1.now ∷ []) }
-{
-    let [first, second] = terms else {
-        return None;
-    };
-    Some((first, second))
-}
-
-/// The two parts of a conjunction, or none where the term is no conjunction.
-#[tactic(auto, using(crate::proofs::PartLemmas::two_parts, crate::proofs::PartLemmas::no_parts))]
-pub(crate) fn conjuncts(term: &Term) -> Option<(&Term, &Term)>
-    ensures { MatchOption result (conjuncts_of (plain_term term.now) ≡ None) (λ p. conjuncts_of (plain_term term.now) ≡ Some (plain_term p.0.now, plain_term p.1.now)) }
-{
-    match term {
-        Term::App(Head::Op(Op::Logic(LogicOp::And)), args) => couple(args.items()),
-        _ => None,
-    }
-}
 
 fn both(alloc: Global, a: &Term, b: &Term) -> Result<Term, Memory>
     ensures { IfOk result (λ t. plain_term t ≡ both_of (plain_term a.now) (plain_term b.now)) }
