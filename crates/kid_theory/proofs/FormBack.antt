@@ -1,6 +1,7 @@
 -- The form of what keeps the rules is not refused.
 use Rattle.std.proofs.Common.{◌≡◌, ℕ, ℤ, Bool, true, List, [], length, Option, Ok, refl, ap, ◌∙◌, arith}
 use Rattle.std.specs.Prelude.{pos, negsuc, int_le, nat_le, nat_lt, not, ◌&&◌, codes}
+use Rattle.std.specs.List.{list_all}
 use Rattle.std.proofs.lemmas.Bool.Decides.{nat_tests}
 use Rattle.kid_sexp.specs.Plain.{Plains, atom, one}
 use Rattle.kid_value.specs.PlainSort.{PlainSort}
@@ -17,18 +18,24 @@ use Rattle.kid_codec.specs.SortSpelling.{headed}
 use Rattle.kid_codec.specs.TermSpelling.{term_spelling, is_spelled_term}
 use Rattle.kid_codec.proofs.Numbers.{number_of-decimal}
 use Rattle.kid_term.specs.PlainLaw.{PlainLaw}
+use Rattle.kid_term.specs.PlainTheory.{PlainTheory}
+use Rattle.kid_moves.specs.PlainRule.{PlainMove}
+use Rattle.kid_lines.specs.LineSpelling.{is_spelled_move}
 use Rattle.kid_kernel.specs.SortedLaw.{is_sorted_law}
 use Rattle.kid_kernel.specs.Wordless.{is_wordless, is_wordless_definition, is_wordless_law}
 use Rattle.kid_theory.specs.Ahead.{calls_ahead}
-use Rattle.kid_theory.specs.Formed.{names_of, is_formed_definition, is_spelled_axiom}
-use Rattle.kid_theory.specs.Forms.{title_form, judged_definition, definition_form, judged_name, input_form, output_form, condition_form, counted, first_form, is_named_law, judged_law, axiom_form}
-use Rattle.kid_theory.specs.Judged.{◌>>=◌, shaped, tested}
+use Rattle.kid_theory.specs.Formed.{is_formed_definition, is_spelled_law, is_spelled_claim}
+use Rattle.kid_theory.specs.Before.{is_shown}
+use Rattle.kid_theory.specs.Claims.{PlainClaim, assumed, proved, law_of}
+use Rattle.kid_theory.specs.Forms.{title_form, judged_definition, definition_form, judged_name, input_form, output_form, condition_form, counted, first_form, is_named_law, judged_law, proved_by, judged_proof, claim_form}
+use Rattle.kid_theory.specs.Known.{names_of}
+use Rattle.kid_theory.specs.Judged.{Judged, ◌>>=◌, shaped, tested}
 use Rattle.kid_theory.specs.Shapes.{declared_form}
-use Rattle.kid_theory.specs.Spelling.{axiom_spelling, first_spelling}
+use Rattle.kid_theory.specs.Spelling.{claim_spelling, first_spelling}
 use Rattle.kid_theory.specs.Taken.{Taken, is_free, are_free}
 use Rattle.kid_theory.specs.declared.fault.TheoryCode.TheVariants as code
 use Rattle.kid_theory.proofs.Passed.{found}
-use Rattle.kid_theory.proofs.ShapeBack.{lone_term_shaped, declared_shaped, definition_shaped, axiom_shaped}
+use Rattle.kid_theory.proofs.ShapeBack.{lone_term_shaped, declared_shaped, definition_shaped, assumed_shaped, proved_shaped}
 
 pub title_passed : (name : List ℕ) → is_name name ≡ true → title_form (headed (codes "theory") (one (atom name))) ≡ Ok name
 title_passed name named = ap (λ (b : Bool). tested b code.Name (found name)) named
@@ -76,8 +83,20 @@ definition_passed before later d spelled wordless formed =
     ap (λ (o : Option PlainDef). shaped o >>= judged_definition before (names_of before) later) (definition_shaped d spelled wordless)
     ∙ (λ i. tested (shallow i) code.Limit (tested (free i) code.Name (tested (behind i) code.Cycle (tested (sorted i) code.Sort (found d)))))
 
-pub axiom_passed : (defs : List PlainDef) (inputs : Names) (taken variables : Taken) (a : PlainLaw) → is_spelled_axiom a ≡ true → is_wordless_law a ≡ true
-    → is_named_law taken variables a ≡ true → is_sorted_law defs inputs a ≡ true → axiom_form defs inputs taken variables (axiom_spelling a) ≡ Ok a
-axiom_passed defs inputs taken variables a spelled wordless named sorted =
-    ap (λ (o : Option PlainLaw). shaped o >>= judged_law defs inputs taken variables) (axiom_shaped a spelled wordless)
-    ∙ (λ i. tested (named i) code.Name (tested (sorted i) code.Sort (found a)))
+-- ---- laws and axioms
+
+law_passed : (defs : List PlainDef) (inputs : Names) (taken variables : Taken) (a : PlainLaw) → is_named_law taken variables a ≡ true → is_sorted_law defs inputs a ≡ true
+    → judged_law defs inputs taken variables a ≡ Ok a
+law_passed defs inputs taken variables a named sorted = λ i. tested (named i) code.Name (tested (sorted i) code.Sort (found a))
+
+pub claim_passed : (t : PlainTheory) (taken variables : Taken) (c : PlainClaim) → is_spelled_claim c ≡ true → is_wordless_law (law_of c) ≡ true → is_named_law taken variables (law_of c) ≡ true
+    → is_sorted_law t.signature.definitions t.signature.inputs (law_of c) ≡ true → is_shown t c ≡ true → claim_form t taken variables (claim_spelling c) ≡ Ok c
+claim_passed t taken variables (assumed a) spelled wordless named sorted shown =
+    let judged : PlainLaw → Judged PlainLaw = judged_law t.signature.definitions t.signature.inputs taken variables in
+    ap (λ (o : Option PlainLaw). (shaped o >>= judged) >>= λ l. found (assumed l)) (assumed_shaped a spelled wordless)
+    ∙ ap (λ (r : Judged PlainLaw). r >>= λ l. found (assumed l)) (law_passed t.signature.definitions t.signature.inputs taken variables a named sorted)
+claim_passed t taken variables (proved a moves) spelled wordless named sorted shown =
+    let own = and_parts (is_spelled_law a) (list_all is_spelled_move moves) spelled in
+    ap (λ (o : Option (PlainLaw × List PlainMove)). shaped o >>= judged_proof t taken variables) (proved_shaped a moves own.0 own.1 wordless)
+    ∙ ap (λ (r : Judged PlainLaw). r >>= proved_by t moves) (law_passed t.signature.definitions t.signature.inputs taken variables a named sorted)
+    ∙ ap (λ (b : Bool). tested b code.Proof (found (proved a moves))) shown

@@ -7,18 +7,17 @@ use Rattle.kid_term.specs.Names.{Names, PlainDef}
 use Rattle.kid_term.specs.PlainTerm.{PlainTerm}
 use Rattle.kid_term.specs.Sorting.{sort_of}
 use Rattle.kid_sorting.specs.Declaring.{is_truth, is_sorted_definition, is_shallow}
-use Rattle.kid_term.specs.PlainLaw.{PlainLaw}
-use Rattle.kid_kernel.specs.SortedLaw.{is_sorted_law}
-use Rattle.kid_kernel.specs.Wordless.{is_wordless, is_wordless_definition, is_wordless_law}
+use Rattle.kid_kernel.specs.Wordless.{is_wordless, is_wordless_definition}
 use Rattle.kid_theory.specs.Ahead.{calls_ahead}
-use Rattle.kid_theory.specs.Formed.{names_of, is_formed_definition}
-use Rattle.kid_theory.specs.Forms.{judged_definition, definition_form, condition_form, is_named_law, judged_law, axiom_form}
+use Rattle.kid_theory.specs.Formed.{is_formed_definition}
+use Rattle.kid_theory.specs.Forms.{judged_definition, definition_form, condition_form}
 use Rattle.kid_theory.specs.Judged.{Judged, tested}
-use Rattle.kid_theory.specs.Shapes.{lone_term, definition_shape, axiom_shape}
+use Rattle.kid_theory.specs.Known.{names_of}
+use Rattle.kid_theory.specs.Shapes.{lone_term, definition_shape}
 use Rattle.kid_theory.specs.Taken.{Taken, is_free, are_free}
 use Rattle.kid_theory.specs.declared.fault.TheoryCode.TheVariants as code
 use Rattle.kid_theory.proofs.Passed.{found, found_same, tested_ok, shaped_ok}
-use Rattle.kid_theory.proofs.ShapeKept.{lone_kept, definition_shape_kept, axiom_shape_kept}
+use Rattle.kid_theory.proofs.ShapeKept.{lone_kept, definition_shape_kept}
 
 pub condition_kept : (word : List ℕ) (defs : List PlainDef) (names : Names) (t : Plain) (c : PlainTerm) → condition_form word defs names t ≡ Ok c → is_wordless c ≡ true
 condition_kept word defs names t c p =
@@ -48,14 +47,3 @@ definition_kept before later t d p =
     let four = and_both (is_shallow before g && is_free taken g.name && are_free [] g.parameters) (not (calls_ahead g.name later g.body)) three c.0 in
     let all = and_both (is_shallow before g && is_free taken g.name && are_free [] g.parameters && not (calls_ahead g.name later g.body)) (is_sorted_definition before g) four e.0 in
     (ap (is_formed_definition before later) (sym same) ∙ all, ap is_wordless_definition (sym same) ∙ definition_shape_kept t g s.1)
-
-pub axiom_kept : (defs : List PlainDef) (inputs : Names) (taken variables : Taken) (t : Plain) (a : PlainLaw) → axiom_form defs inputs taken variables t ≡ Ok a
-    → (is_named_law taken variables a ≡ true) × (is_wordless_law a ≡ true)
-axiom_kept defs inputs taken variables t a p =
-    let s = shaped_ok (axiom_shape t) (judged_law defs inputs taken variables) a p in
-    let g : PlainLaw = s.0 in
-    let sorted : Judged PlainLaw = tested (is_sorted_law defs inputs g) code.Sort (Ok g) in
-    let n = tested_ok (is_named_law taken variables g) code.Name sorted a s.2 in
-    let b = tested_ok (is_sorted_law defs inputs g) code.Sort (found g) a n.1 in
-    let same = found_same g a b.1 in
-    (ap (is_named_law taken variables) (sym same) ∙ n.0, ap is_wordless_law (sym same) ∙ axiom_shape_kept t g s.1)

@@ -1,167 +1,174 @@
--- What a theory file that keeps the rules gives is a theory.
-use Rattle.std.proofs.Common.{◌≡◌, ℕ, Bool, true, false, not, ◌||◌, List, [], ◌∷◌, ◌++◌, refl, sym, ap, ◌∙◌, subst, append_assoc, append-nil}
-use Rattle.std.specs.Prelude.{◌&&◌, nat_le, map}
+-- What a theory file that keeps the rules gives is a theory, whose laws hold.
+use Rattle.std.proofs.Common.{◌≡◌, ◌≤◌, ℕ, Bool, true, List, [], ◌∷◌, ◌++◌, ◌+◌, length, refl, sym, ◌∙◌, subst, append_assoc, append-nil, arith}
+use Rattle.std.specs.Prelude.{◌&&◌}
 use Rattle.std.specs.List.{list_all}
-use Rattle.std.proofs.lemmas.List.{map-append}
-use Rattle.std.proofs.lemmas.List.Folds.{list_all-append}
+use Rattle.std.proofs.lemmas.List.{length-append}
 use Rattle.kid_sexp.specs.Plain.{Plains}
+use Rattle.kid_value.specs.PlainSort.{PlainSort}
+use Rattle.kid_value.specs.SortLimits.{is_allowed}
 use Rattle.kid_value.proofs.SortLemmas.{and_parts, and_both}
-use Rattle.kid_term.specs.CallDepth.{body_depth, depths_of}
-use Rattle.kid_term.specs.Fitting.{AreSound}
-use Rattle.kid_term.specs.Names.{Names, PlainDef, same_name, is_named}
+use Rattle.kid_term.specs.Names.{Names, PlainDef}
+use Rattle.kid_term.specs.PlainLaw.{PlainLaw}
+use Rattle.kid_term.specs.PlainTheory.{PlainTheory}
 use Rattle.kid_term.specs.Sorting.{sort_of}
-use Rattle.kid_sorting.specs.Declaring.{is_sorted_definition, is_shallow}
-use Rattle.kid_sorting.proofs.SoundDefinitions.{names-allowed, sound-more}
+use Rattle.kid_sorting.specs.Declaring.{are_allowed}
 use Rattle.kid_codec.specs.DeclaredSpelling.{definitions_before, is_spelled_name, is_spelled_definition}
 use Rattle.kid_codec.specs.TermSpelling.{is_spelled_term}
-use Rattle.kid_kernel.specs.Differ.{words_of, differ, are_apart}
-use Rattle.kid_kernel.specs.IsTheory.{are_shallow, have_own_parameters, has_own_variables, IsTheory}
-use Rattle.kid_value.specs.NameSet.{is_among}
-use Rattle.kid_term.specs.PlainLaw.{PlainLaw}
-use Rattle.kid_kernel.proofs.Differing.{among_parts, apart_parts, differ_more, variables_of, laws_apart}
-use Rattle.kid_theory.specs.Ahead.{calls_ahead}
-use Rattle.kid_theory.specs.Formed.{names_of, is_formed_definition, are_formed_definitions, are_named_before, names_before_axioms, IsFormed}
+use Rattle.kid_kernel.specs.Differ.{words_of}
+use Rattle.kid_kernel.specs.Held.{LawsHold}
+use Rattle.kid_kernel.specs.IsTheory.{IsTheory}
+use Rattle.kid_kernel.specs.SortedLaw.{is_sorted_law}
+use Rattle.kid_kernel.specs.Wordless.{is_wordless_definition, is_wordless_law}
+use Rattle.kid_lines.specs.LineSpelling.{is_spelled_move}
+use Rattle.kid_theory.specs.Before.{theory_before, with_claim, is_shown, are_shown}
+use Rattle.kid_theory.specs.Claims.{PlainClaim, assumed, proved, law_of, claimed, proved_among, assumed_among}
+use Rattle.kid_theory.specs.Formed.{is_spelled_law, is_spelled_claim, is_formed_definition, are_formed_definitions, are_named_before, names_before_laws, IsFormed}
 use Rattle.kid_theory.specs.Forms.{is_named_law}
 use Rattle.kid_theory.specs.IsRead.{IsRead}
+use Rattle.kid_theory.specs.Known.{names_of, AreDeclared, IsKnown}
 use Rattle.kid_theory.specs.PlainFile.{PlainFile, output_of, relation_names, theory_of}
 use Rattle.kid_theory.specs.Spelling.{from_inputs}
 use Rattle.kid_theory.specs.Taken.{Taken, is_free, are_free}
-use Rattle.kid_theory.proofs.DepthLemmas.{depths_more}
+use Rattle.kid_theory.proofs.ClaimsHold.{claim_holds}
+use Rattle.kid_theory.proofs.DeclaredLemmas.{none_declared, definition_declared, input_declared, condition_known}
 use Rattle.kid_theory.proofs.FormTold.{truth_sorted}
-use Rattle.kid_theory.proofs.TakenLemmas.{free_new}
+use Rattle.kid_theory.proofs.KnownLemmas.{claim_known, output_theory}
 
-grown : {X : Type 0} (p : X → Bool) (xs : List X) (x : X) → list_all p xs ≡ true → p x ≡ true → list_all p (xs ++ x ∷ []) ≡ true
-grown p xs x h k = list_all-append p xs (x ∷ []) ∙ and_both (list_all p xs) (p x && true) h (and_both (p x) true k refl)
+-- ---- definitions and inputs
 
--- ---- names that are free
-
--- free names differ, from one another and from those that are declared
-free_differ : (taken : Taken) (ns : Names) → are_free taken ns ≡ true → (are_apart (words_of ns) taken ≡ true) × (differ (words_of ns) ≡ true)
-free_differ taken [] p = (refl, refl)
-free_differ taken (n ∷ ns) p =
-    let a = and_parts (is_free taken n.0) (are_free (taken ++ n.0 ∷ []) ns) p in
-    let b = free_differ (taken ++ n.0 ∷ []) ns a.1 in
-    let c = apart_parts (words_of ns) taken n.0 b.0 in (
-      and_both (not (is_among n.0 taken)) (are_apart (words_of ns) taken) (ap not (free_new n.0 taken a.0)) c.0,
-      and_both (not (is_among n.0 (words_of ns))) (differ (words_of ns)) (ap not c.1) b.1,
-    )
-
-names_differ : (taken : Taken) (ns : Names) → differ taken ≡ true → are_free taken ns ≡ true → differ (taken ++ words_of ns) ≡ true
-names_differ taken [] d p = ap differ (append-nil taken) ∙ d
-names_differ taken (n ∷ ns) d p =
-    let a = and_parts (is_free taken n.0) (are_free (taken ++ n.0 ∷ []) ns) p in
-    ap differ (sym (append_assoc taken (n.0 ∷ []) (words_of ns))) ∙ names_differ (taken ++ n.0 ∷ []) ns (differ_more taken n.0 d (free_new n.0 taken a.0)) a.1
-
--- ---- definitions
-
-record AreGood (defs : List PlainDef) : Type 0 where
-  sound : AreSound defs
-  shallow : are_shallow defs ≡ true
-  parameters : have_own_parameters defs ≡ true
-  distinct : differ (names_of defs) ≡ true
-
-no_definitions : AreGood []
-no_definitions = record { sound = tt; shallow = refl; parameters = refl; distinct = refl }
-
-one_definition : (before : List PlainDef) (later : Plains) (d : PlainDef) → AreGood before → is_formed_definition before later d ≡ true → AreGood (before ++ d ∷ [])
-one_definition before later d good formed =
-    let a = and_parts (is_shallow before d && is_free (names_of before) d.name && are_free [] d.parameters && not (calls_ahead d.name later d.body)) (is_sorted_definition before d) formed in
-    let b = and_parts (is_shallow before d && is_free (names_of before) d.name && are_free [] d.parameters) (not (calls_ahead d.name later d.body)) a.0 in
-    let c = and_parts (is_shallow before d && is_free (names_of before) d.name) (are_free [] d.parameters) b.0 in
-    let e = and_parts (is_shallow before d) (is_free (names_of before) d.name) c.0 in
-    record {
-      sound = sound-more before d good.sound a.1;
-      shallow = ap (λ ds. list_all (λ g. nat_le g.1 16) ds) (depths_more before d)
-          ∙ grown (λ (g : List ℕ × ℕ). nat_le g.1 16) (depths_of before) (d.name, body_depth (depths_of before) d.body) good.shallow e.0;
-      parameters = grown (λ (g : PlainDef). differ (words_of g.parameters)) before d good.parameters (free_differ [] d.parameters c.1).1;
-      distinct = ap differ (map-append (λ (g : PlainDef). g.name) before (d ∷ [])) ∙ differ_more (names_of before) d.name good.distinct (free_new d.name (names_of before) e.1);
-    }
-
-all_definitions : (before rest : List PlainDef) (later : Plains) → AreGood before → are_formed_definitions before rest later ≡ true → AreGood (before ++ rest)
-all_definitions before [] later good formed = subst AreGood (sym (append-nil before)) good
-all_definitions before (d ∷ ds) later good formed =
+all_definitions : (before rest : List PlainDef) (taken : Taken) (later : Plains) → AreDeclared before [] taken → are_formed_definitions before rest later ≡ true → list_all is_wordless_definition rest ≡ true
+    → (names : Taken) × AreDeclared (before ++ rest) [] names
+all_definitions before [] taken later good formed wordless = (taken, subst (λ ds. AreDeclared ds [] taken) (sym (append-nil before)) good)
+all_definitions before (d ∷ ds) taken later good formed wordless =
     let f = and_parts (is_formed_definition before (definitions_before ds later) d) (are_formed_definitions (before ++ d ∷ []) ds later) formed in
-    subst AreGood (append_assoc before (d ∷ []) ds) (all_definitions (before ++ d ∷ []) ds later (one_definition before (definitions_before ds later) d good f.0) f.1)
+    let w = and_parts (is_wordless_definition d) (list_all is_wordless_definition ds) wordless in
+    let more = definition_declared before taken (definitions_before ds later) d good f.0 w.0 in
+    let all = all_definitions (before ++ d ∷ []) ds (taken ++ d.name ∷ []) later more f.1 w.1 in
+    (all.0, subst (λ es. AreDeclared es [] all.0) (append_assoc before (d ∷ []) ds) all.1)
 
--- ---- laws
+few_more : (inputs : Names) (n : List ℕ × PlainSort) (ns : Names) → length inputs + length (n ∷ ns) ≤ 16 → (length (inputs ++ n ∷ []) ≤ 16) × (length (inputs ++ n ∷ []) + length ns ≤ 16)
+few_more inputs n ns room = let l = length-append inputs (n ∷ []) in (omega (arith, l), omega (arith, l))
 
--- the names differ, and each law's variables from one another and from all of them
-record AreNamed (names : Taken) (laws : List PlainLaw) : Type 0 where
-  distinct : differ names ≡ true
-  own : list_all (has_own_variables names) laws ≡ true
+all_inputs : (defs : List PlainDef) (inputs rest : Names) (taken : Taken) → AreDeclared defs inputs taken → length inputs + length rest ≤ 16 → are_free taken rest ≡ true → are_allowed rest ≡ true
+    → AreDeclared defs (inputs ++ rest) (taken ++ words_of rest)
+all_inputs defs inputs [] taken good room free allowed =
+    subst (λ names. AreDeclared defs (inputs ++ []) names) (sym (append-nil taken)) (subst (λ ns. AreDeclared defs ns taken) (sym (append-nil inputs)) good)
+all_inputs defs inputs (n ∷ ns) taken good room free allowed =
+    let f = and_parts (is_free taken n.0) (are_free (taken ++ n.0 ∷ []) ns) free in
+    let a = and_parts (is_allowed n.1) (are_allowed ns) allowed in
+    let few = few_more inputs n ns room in
+    let all = all_inputs defs (inputs ++ n ∷ []) ns (taken ++ n.0 ∷ []) (input_declared defs inputs taken n good few.0 f.0 a.0) few.1 f.1 a.1 in
+    subst (λ names. AreDeclared defs (inputs ++ n ∷ ns) names) (append_assoc taken (n.0 ∷ []) (words_of ns))
+    (subst (λ es. AreDeclared defs es ((taken ++ n.0 ∷ []) ++ words_of ns)) (append_assoc inputs (n ∷ []) ns) all)
 
-one_name : (names : Taken) (laws : List PlainLaw) (x : List ℕ) → AreNamed names laws → is_free (names ++ variables_of laws) x ≡ true → AreNamed (names ++ x ∷ []) laws
-one_name names laws x named free =
-    let new = among_parts x names (variables_of laws) (free_new x (names ++ variables_of laws) free) in
-    record { distinct = differ_more names x named.distinct new.0; own = laws_apart laws names x named.own new.1 }
+-- ---- laws and axioms
 
-one_law : (names : Taken) (laws : List PlainLaw) (a : PlainLaw) → AreNamed names laws → is_named_law names (variables_of laws) a ≡ true → AreNamed (names ++ a.name ∷ []) (laws ++ a ∷ [])
-one_law names laws a named is =
-    let q = and_parts (is_free (names ++ variables_of laws) a.name) (are_free (names ++ a.name ∷ []) a.variables) is in
-    let more = one_name names laws a.name named q.0 in
-    let own = free_differ (names ++ a.name ∷ []) a.variables q.1 in
+-- what holds of the theory of the forms so far
+record Stands (t : PlainTheory) (taken variables : Taken) : Type 0 where
+  known : IsKnown t taken variables
+  laws : LawsHold t
+
+-- with so many laws and axioms more
+abbrev with_laws : PlainTheory → List PlainLaw → List PlainLaw → PlainTheory
+with_laws t laws axioms = record t { laws = t.laws ++ laws; axioms = t.axioms ++ axioms }
+
+-- a theory stands, and the output is new to it
+record StandsBefore (t : PlainTheory) (output : List ℕ) : Type 0 where
+  taken : Taken
+  variables : Taken
+  stands : Stands t taken variables
+  free : is_free (taken ++ variables) output ≡ true
+
+-- claims that are to come over these definitions and inputs
+record AreKept (t : PlainTheory) (taken variables : Taken) (cs : List PlainClaim) (output : List ℕ) : Type 0 where
+  wordless : list_all is_wordless_law (claimed cs) ≡ true
+  sorted : list_all (is_sorted_law t.signature.definitions t.signature.inputs) (claimed cs) ≡ true
+  named : are_named_before taken variables (claimed cs) output ≡ true
+  shown : are_shown t cs ≡ true
+
+-- one claim stands, and what is to come after it is kept
+record Next (t : PlainTheory) (taken variables : Taken) (c : PlainClaim) (cs : List PlainClaim) (output : List ℕ) : Type 0 where
+  stands : Stands (with_claim t c) (taken ++ (law_of c).name ∷ []) (variables ++ words_of (law_of c).variables)
+  wordless : list_all is_wordless_law (claimed cs) ≡ true
+  sorted : list_all (is_sorted_law t.signature.definitions t.signature.inputs) (claimed cs) ≡ true
+  named : are_named_before (taken ++ (law_of c).name ∷ []) (variables ++ words_of (law_of c).variables) (claimed cs) output ≡ true
+  shown : are_shown (with_claim t c) cs ≡ true
+
+next : (t : PlainTheory) (taken variables : Taken) (c : PlainClaim) (cs : List PlainClaim) (output : List ℕ) → Stands t taken variables → AreKept t taken variables (c ∷ cs) output → Next t taken variables c cs output
+next t taken variables c cs output stands kept =
+    let l : PlainLaw = law_of c in
+    let w = and_parts (is_wordless_law l) (list_all is_wordless_law (claimed cs)) kept.wordless in
+    let is_sorted : PlainLaw → Bool = is_sorted_law t.signature.definitions t.signature.inputs in
+    let s = and_parts (is_sorted l) (list_all is_sorted (claimed cs)) kept.sorted in
+    let n = and_parts (is_named_law taken variables l) (are_named_before (taken ++ l.name ∷ []) (variables ++ words_of l.variables) (claimed cs) output) kept.named in
+    let q = and_parts (is_shown t c) (are_shown (with_claim t c) cs) kept.shown in
     record {
-      distinct = more.distinct;
-      own = grown (has_own_variables (names ++ a.name ∷ [])) laws a more.own (and_both (differ (words_of a.variables)) (are_apart (words_of a.variables) (names ++ a.name ∷ [])) own.1 own.0);
+      stands = record {
+        known = claim_known t taken variables c stands.known n.0 s.0 w.0;
+        laws = claim_holds t taken variables c stands.known n.0 s.0 q.0 stands.laws;
+      };
+      wordless = w.1;
+      sorted = s.1;
+      named = n.1;
+      shown = q.1;
     }
 
-variables_more : (laws : List PlainLaw) (a : PlainLaw) → variables_of (laws ++ a ∷ []) ≡ variables_of laws ++ words_of a.variables
-variables_more [] a = append-nil (words_of a.variables)
-variables_more (l ∷ laws) a =
-    ap (λ (xs : Taken). words_of l.variables ++ xs) (variables_more laws a) ∙ sym (append_assoc (words_of l.variables) (variables_of laws) (words_of a.variables))
-
-all_laws : (names : Taken) (laws rest : List PlainLaw) (output : List ℕ) → AreNamed names laws → are_named_before names (variables_of laws) rest output ≡ true
-    → AreNamed ((names ++ map (λ l. l.name) rest) ++ output ∷ []) (laws ++ rest)
-all_laws names laws [] output named is =
-    subst (AreNamed ((names ++ []) ++ output ∷ [])) (sym (append-nil laws))
-    (subst (λ (ns : Taken). AreNamed (ns ++ output ∷ []) laws) (sym (append-nil names)) (one_name names laws output named is))
-all_laws names laws (a ∷ others) output named is =
-    let q = and_parts (is_named_law names (variables_of laws) a) (are_named_before (names ++ a.name ∷ []) (variables_of laws ++ words_of a.variables) others output) is in
-    let rest = ap (λ (vs : Taken). are_named_before (names ++ a.name ∷ []) vs others output) (variables_more laws a) ∙ q.1 in
-    subst (AreNamed ((names ++ a.name ∷ map (λ l. l.name) others) ++ output ∷ [])) (append_assoc laws (a ∷ []) others)
-    (subst (λ (ns : Taken). AreNamed (ns ++ output ∷ []) ((laws ++ a ∷ []) ++ others)) (append_assoc names (a.name ∷ []) (map (λ l. l.name) others))
-    (all_laws (names ++ a.name ∷ []) (laws ++ a ∷ []) others output (one_law names laws a named q.0) rest))
-
--- the output is none of the names before the laws
-output_apart : (names variables : Taken) (rest : List PlainLaw) (output : List ℕ) → are_named_before names variables rest output ≡ true → is_among output names ≡ false
-output_apart names variables [] output is = (among_parts output names variables (free_new output (names ++ variables) is)).0
-output_apart names variables (a ∷ others) output is =
-    let q = and_parts (is_named_law names variables a) (are_named_before (names ++ a.name ∷ []) (variables ++ words_of a.variables) others output) is in
-    (among_parts output names (a.name ∷ []) (output_apart (names ++ a.name ∷ []) (variables ++ words_of a.variables) others output q.1)).0
-
-named_words : (x : List ℕ) (ns : Names) → is_named x ns ≡ is_among x (words_of ns)
-named_words x [] = refl
-named_words x (n ∷ ns) = ap (λ b. same_name x n.0 || b) (named_words x ns)
+all_claims : (t : PlainTheory) (taken variables : Taken) (cs : List PlainClaim) (output : List ℕ) → Stands t taken variables → AreKept t taken variables cs output
+    → StandsBefore (with_laws t (proved_among cs) (assumed_among cs)) output
+all_claims t taken variables [] output stands kept =
+    let is : with_laws t [] [] ≡ t = λ i. record t { laws = append-nil t.laws i; axioms = append-nil t.axioms i } in
+    subst (λ u. StandsBefore u output) (sym is) (record { taken = taken; variables = variables; stands = stands; free = kept.named })
+all_claims t taken variables (assumed l ∷ cs) output stands kept =
+    let n = next t taken variables (assumed l) cs output stands kept in
+    let all = all_claims (with_claim t (assumed l)) (taken ++ l.name ∷ []) (variables ++ words_of l.variables) cs output n.stands
+    (record { wordless = n.wordless; sorted = n.sorted; named = n.named; shown = n.shown }) in
+    let more = append_assoc t.axioms (l ∷ []) (assumed_among cs) in
+    subst (λ u. StandsBefore u output) (λ i. record t { laws = t.laws ++ proved_among cs; axioms = more i }) all
+all_claims t taken variables (proved l moves ∷ cs) output stands kept =
+    let n = next t taken variables (proved l moves) cs output stands kept in
+    let all = all_claims (with_claim t (proved l moves)) (taken ++ l.name ∷ []) (variables ++ words_of l.variables) cs output n.stands
+    (record { wordless = n.wordless; sorted = n.sorted; named = n.named; shown = n.shown }) in
+    let more = append_assoc t.laws (l ∷ []) (proved_among cs) in
+    subst (λ u. StandsBefore u output) (λ i. record t { laws = more i; axioms = t.axioms ++ assumed_among cs }) all
 
 -- ---- the whole
 
-pub formed_theory : (f : PlainFile) → IsFormed f → IsTheory (theory_of f)
-formed_theory f formed =
-    let good = all_definitions [] f.definitions (from_inputs f) no_definitions formed.definitions_formed in
-    let first : AreNamed (names_before_axioms f) [] =
-    record { distinct = names_differ (names_of f.definitions) f.inputs good.distinct formed.inputs_free; own = refl } in
-    let named = all_laws (names_before_axioms f) [] f.laws f.output first formed.laws_named in
-    let apart = output_apart (names_before_axioms f) [] f.laws f.output formed.laws_named in
+-- a theory whose laws hold
+record TheoryStands (t : PlainTheory) : Type 0 where
+  theory : IsTheory t
+  laws : LawsHold t
+
+formed_stands : (f : PlainFile) → IsFormed f → TheoryStands (theory_of f)
+formed_stands f formed =
+    let few = formed.few_inputs in
+    let definitions = all_definitions [] f.definitions [] (from_inputs f) none_declared formed.definitions_formed formed.definitions_wordless in
+    let of_definitions : AreDeclared f.definitions [] (names_of f.definitions) = subst (AreDeclared f.definitions []) (definitions.1.names ∙ append-nil (names_of f.definitions)) definitions.1 in
+    let inputs = all_inputs f.definitions [] f.inputs (names_of f.definitions) of_definitions (omega (arith, few)) formed.inputs_free formed.inputs_allowed in
+    let before : PlainTheory = theory_before f.definitions f.inputs f.condition in
+    let first : Stands before (names_before_laws f) [] =
+    record { known = condition_known f.definitions f.inputs (names_before_laws f) f.condition inputs (truth_sorted (sort_of f.definitions f.inputs f.condition) formed.condition_sorted) formed.condition_wordless; laws = λ x good. tt } in
+    let all = all_claims before (names_before_laws f) [] f.claims f.output first
+    (record { wordless = formed.laws_wordless; sorted = formed.laws_sorted; named = formed.laws_named; shown = formed.laws_shown }) in
+    let t : PlainTheory = with_laws before (proved_among f.claims) (assumed_among f.claims) in
     record {
-      sound = good.sound;
-      shallow = good.shallow;
-      definitions_wordless = formed.definitions_wordless;
-      parameters_differ = good.parameters;
-      names_differ = named.distinct;
-      same_inputs = refl;
-      few_inputs = formed.few_inputs;
-      inputs_allowed = names-allowed f.inputs formed.inputs_allowed;
-      condition = truth_sorted (sort_of f.definitions f.inputs f.condition) formed.condition_sorted;
-      condition_wordless = formed.condition_wordless;
-      laws_sorted = formed.laws_sorted;
-      laws_wordless = formed.laws_wordless;
-      variables_differ = named.own;
-      sort_allowed = formed.sort_allowed;
-      output_new = named_words f.output f.inputs ∙ (among_parts f.output (names_of f.definitions) (words_of f.inputs) apart).1;
-      relation = truth_sorted (sort_of f.definitions (relation_names f) f.relation) formed.relation_sorted;
-      relation_wordless = formed.relation_wordless;
-      wanted = formed.wanted;
+      theory = output_theory t all.taken all.variables (output_of f) f.relation f.first all.stands.known all.free formed.sort_allowed (truth_sorted (sort_of f.definitions (relation_names f) f.relation) formed.relation_sorted)
+          formed.relation_wordless formed.wanted;
+      laws = λ x good. all.stands.laws x (record { fits = good.fits; condition = good.condition; axioms = good.axioms });
     }
+
+-- ---- spellings of laws and axioms
+
+all_spelled : (cs : List PlainClaim) → list_all is_spelled_claim cs ≡ true → (list_all is_spelled_law (proved_among cs) ≡ true) × (list_all is_spelled_law (assumed_among cs) ≡ true)
+all_spelled [] p = (refl, refl)
+all_spelled (assumed l ∷ cs) p =
+    let q = and_parts (is_spelled_law l) (list_all is_spelled_claim cs) p in
+    let r = all_spelled cs q.1 in
+    (r.0, and_both (is_spelled_law l) (list_all is_spelled_law (assumed_among cs)) q.0 r.1)
+all_spelled (proved l moves ∷ cs) p =
+    let q = and_parts (is_spelled_law l && list_all is_spelled_move moves) (list_all is_spelled_claim cs) p in
+    let own = and_parts (is_spelled_law l) (list_all is_spelled_move moves) q.0 in
+    let r = all_spelled cs q.1 in
+    (and_both (is_spelled_law l) (list_all is_spelled_law (proved_among cs)) own.0 r.0, r.1)
 
 pub formed_read : (f : PlainFile) → IsFormed f → IsRead (theory_of f)
 formed_read f formed =
@@ -172,8 +179,12 @@ formed_read f formed =
     let two = and_both ds ns formed.definitions_spelled formed.inputs_spelled in
     let three = and_both (ds && ns) c two formed.condition_spelled in
     let four = and_both (ds && ns && c) o three formed.output_spelled in
+    let laws = all_spelled f.claims formed.claims_spelled in
+    let stands = formed_stands f formed in
     record {
-      is_theory = formed_theory f formed;
+      is_theory = stands.theory;
       spelled = and_both (ds && ns && c && o) (is_spelled_term f.relation) four formed.relation_spelled;
-      axioms_spelled = formed.laws_spelled;
+      laws_spelled = laws.0;
+      axioms_spelled = laws.1;
+      laws_hold = stands.laws;
     }

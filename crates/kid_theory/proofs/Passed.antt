@@ -1,5 +1,5 @@
 -- What a form is that was not refused.
-use Rattle.std.proofs.Common.{◌≡◌, Bool, true, false, Option, Some, None, Ok, refl}
+use Rattle.std.proofs.Common.{◌≡◌, Bool, true, false, Option, Some, None, Ok, Err, refl}
 use Rattle.kid_theory.specs.Judged.{Judged, ◌>>=◌, shaped, tested}
 use Rattle.kid_theory.specs.declared.fault.TheoryCode.{TheoryCode}
 
@@ -16,3 +16,7 @@ shaped_ok (Some x) f y p = (x, refl, p)
 
 pub found_same : {A : Type 0} (x y : A) → found x ≡ found y → x ≡ y
 found_same x y p = cc
+
+pub bound_ok : {A B : Type 0} (r : Judged A) (f : A → Judged B) (y : B) → (r >>= f) ≡ Ok y → (x : A) × (r ≡ Ok x) × (f x ≡ Ok y)
+bound_ok (Ok x) f y p = (x, refl, p)
+bound_ok (Err c) f y p = cc

@@ -21,16 +21,20 @@ use Rattle.kid_term.specs.PlainLaw.{PlainLaw}
 use Rattle.kid_kernel.specs.Differ.{words_of}
 use Rattle.kid_kernel.specs.SortedLaw.{is_sorted_law}
 use Rattle.kid_kernel.specs.Wordless.{is_wordless_definition, is_wordless_law}
-use Rattle.kid_theory.specs.Formed.{names_of, is_formed_definition, are_formed_definitions, are_named_before, names_before_axioms, IsFormed, IsFileOf, is_spelled_axiom}
-use Rattle.kid_theory.specs.Forms.{title_form, definition_form, input_form, output_form, condition_form, first_form, is_named_law, axiom_form}
+use Rattle.kid_term.specs.PlainTheory.{PlainTheory}
+use Rattle.kid_theory.specs.Before.{theory_before, laws_with, axioms_with, with_claim as with_law, is_shown, are_shown}
+use Rattle.kid_theory.specs.Claims.{PlainClaim, assumed, proved, law_of, claimed}
+use Rattle.kid_theory.specs.Formed.{is_formed_definition, are_formed_definitions, are_named_before, names_before_laws, IsFormed, IsFileOf, is_spelled_claim}
+use Rattle.kid_theory.specs.Forms.{title_form, definition_form, input_form, output_form, condition_form, first_form, is_named_law, is_claim, claim_form}
 use Rattle.kid_theory.specs.Judged.{Judged}
+use Rattle.kid_theory.specs.Known.{names_of}
 use Rattle.kid_theory.specs.PlainFile.{PlainFile, output_of, relation_names}
-use Rattle.kid_theory.specs.Reading.{Read, ◌>>=◌, refused, numbered, at, Front, with_axiom, file_with, at_end, with_first, after_relation, after_output, after_condition, after_inputs, after_definitions, file_from, from_forest, front_of, file_reading}
-use Rattle.kid_theory.specs.Spelling.{axiom_spelling, axioms_before, first_spelling, first_before, last_forms, later_forms, from_inputs, file_spelling}
+use Rattle.kid_theory.specs.Reading.{Read, ◌>>=◌, refused, numbered, at, Front, with_claim, file_with, at_end, with_first, after_relation, after_output, after_condition, after_inputs, after_definitions, file_from, from_forest, front_of, file_reading}
+use Rattle.kid_theory.specs.Spelling.{claim_spelling, claims_before, first_spelling, first_before, last_forms, later_forms, from_inputs, file_spelling}
 use Rattle.kid_theory.specs.Taken.{Taken, is_free, are_free}
 use Rattle.kid_theory.specs.declared.fault.TheoryCode.TheVariants as code
 use Rattle.kid_theory.proofs.FirstTold.{wanting}
-use Rattle.kid_theory.proofs.FormBack.{title_passed, condition_passed, first_passed, output_passed, input_passed, definition_passed, axiom_passed}
+use Rattle.kid_theory.proofs.FormBack.{title_passed, condition_passed, first_passed, output_passed, input_passed, definition_passed, claim_passed}
 
 is_at_most : (n limit : ℕ) → n ≤ limit → nat_le n limit ≡ true
 is_at_most n limit h = grind (arith, nat_tests)
@@ -106,27 +110,30 @@ inputs_read defs inputs taken (n ∷ ns) later t spelled room free allowed reads
 
 -- ---- the forms after the inputs
 
--- the forms of the file up to some axioms
-abbrev front : PlainFile → List PlainLaw → Taken → Taken → Front
-front t axioms taken variables = record {
+-- the theory of the forms before, with these laws and axioms
+abbrev so_far : PlainFile → List PlainLaw → List PlainLaw → PlainTheory
+so_far t laws axioms = record (theory_before t.definitions t.inputs t.condition) { laws = laws; axioms = axioms }
+
+-- the forms of the file up to some claims
+abbrev front : PlainFile → List PlainLaw → List PlainLaw → List PlainClaim → Taken → Taken → Front
+front t laws axioms claims taken variables = record {
   title = t.title;
-  definitions = t.definitions;
-  inputs = t.inputs;
+  theory = so_far t laws axioms;
+  claims = claims;
   taken = taken;
-  condition = t.condition;
-  axioms = axioms;
   variables = variables;
 }
 
 -- what a file's parts give is the file
-whole_file : (t : PlainFile) (axioms : List PlainLaw) (taken variables : Taken) → axioms ≡ t.laws → wanting (file_with (front t axioms taken variables) (output_of t) t.relation) t.first ≡ t
-whole_file t axioms taken variables is = ap (λ (laws : List PlainLaw). record t { laws = laws }) is
+whole_file : (t : PlainFile) (laws axioms : List PlainLaw) (claims : List PlainClaim) (taken variables : Taken) → claims ≡ t.claims
+    → wanting (file_with (front t laws axioms claims taken variables) (output_of t) t.relation) t.first ≡ t
+whole_file t laws axioms claims taken variables is = ap (λ (cs : List PlainClaim). record t { claims = cs }) is
 
 abbrev read : PlainFile → Read PlainFile
 read t = Ok t
 
-abbrev ConditionRead : PlainFile → List PlainLaw → Taken → Taken → Plains → Type 0
-ConditionRead t axioms taken variables ts = Reads (λ k us. after_condition k (front t axioms taken variables) us) ts t
+abbrev ConditionRead : PlainFile → Front → Plains → Type 0
+ConditionRead t f ts = Reads (λ k us. after_condition k f us) ts t
 
 -- how many answers are wanted
 first_read : (f : Front) (output : List ℕ × PlainSort) (relation : PlainTerm) (first : Option ℕ) (t : PlainFile) → is_wanted first ≡ true
@@ -136,51 +143,76 @@ first_read f output relation (Some n) t h is = λ k few.
     let few_further = further k (first_spelling n) none few in
     passed (suc k) (first_form (first_spelling n)) (λ m. at_end (suc k) (with_first (file_with f output relation) m) none) n t few_further.0 (first_passed n h) (ap read is)
 
-relation_read : (t : PlainFile) (axioms : List PlainLaw) (taken variables : Taken) → IsFormed t → axioms ≡ t.laws
-    → Reads (λ k us. after_output k (front t axioms taken variables) (output_of t) us) (more (headed (codes "ensure") (one (term_spelling t.relation))) (first_before t.first none)) t
-relation_read t axioms taken variables formed is = λ k few.
+relation_read : (t : PlainFile) (laws axioms : List PlainLaw) (claims : List PlainClaim) (taken variables : Taken) → IsFormed t → claims ≡ t.claims
+    → Reads (λ k us. after_output k (front t laws axioms claims taken variables) (output_of t) us) (more (headed (codes "ensure") (one (term_spelling t.relation))) (first_before t.first none)) t
+relation_read t laws axioms claims taken variables formed is = λ k few.
     let us : Plains = first_before t.first none in
     let few_further = further k (headed (codes "ensure") (one (term_spelling t.relation))) us few in
+    let f : Front = front t laws axioms claims taken variables in
     passed (suc k) (condition_form (codes "ensure") t.definitions (relation_names t) (headed (codes "ensure") (one (term_spelling t.relation))))
-    (λ relation. after_relation (suc k) (file_with (front t axioms taken variables) (output_of t) relation) us) t.relation t
+    (λ relation. after_relation (suc k) (file_with f (output_of t) relation) us) t.relation t
     few_further.0 (condition_passed (codes "ensure") t.definitions (relation_names t) t.relation formed.relation_spelled formed.relation_wordless formed.relation_sorted)
-    (first_read (front t axioms taken variables) (output_of t) t.relation t.first t formed.wanted
-    (whole_file t axioms taken variables is) (suc k) few_further.1)
+    (first_read f (output_of t) t.relation t.first t formed.wanted
+    (whole_file t laws axioms claims taken variables is) (suc k) few_further.1)
 
-output_read : (t : PlainFile) (axioms : List PlainLaw) (taken variables : Taken) → IsFormed t → axioms ≡ t.laws
-    → is_free (taken ++ variables) t.output ≡ true → ConditionRead t axioms taken variables (last_forms t)
-output_read t axioms taken variables formed is free = λ k few.
+output_read : (t : PlainFile) (laws axioms : List PlainLaw) (claims : List PlainClaim) (taken variables : Taken) → IsFormed t → claims ≡ t.claims
+    → is_free (taken ++ variables) t.output ≡ true → ConditionRead t (front t laws axioms claims taken variables) (last_forms t)
+output_read t laws axioms claims taken variables formed is free = λ k few.
     let us : Plains = more (headed (codes "ensure") (one (term_spelling t.relation))) (first_before t.first none) in
     let few_further = further k (headed (codes "output") (named_spelling (output_of t))) us few in
     passed (suc k) (output_form (taken ++ variables) (headed (codes "output") (named_spelling (output_of t))))
-    (λ output. after_output (suc k) (front t axioms taken variables) output us) (output_of t) t
+    (λ output. after_output (suc k) (front t laws axioms claims taken variables) output us) (output_of t) t
     few_further.0 (output_passed (taken ++ variables) (output_of t) formed.output_spelled free formed.sort_allowed)
-    (relation_read t axioms taken variables formed is (suc k) few_further.1)
+    (relation_read t laws axioms claims taken variables formed is (suc k) few_further.1)
 
-axioms_read : (t : PlainFile) (axioms rest : List PlainLaw) (taken variables : Taken) → IsFormed t → axioms ++ rest ≡ t.laws
-    → list_all is_spelled_axiom rest ≡ true → list_all is_wordless_law rest ≡ true → list_all (is_sorted_law t.definitions t.inputs) rest ≡ true
-    → are_named_before taken variables rest t.output ≡ true → ConditionRead t axioms taken variables (axioms_before rest (last_forms t))
-axioms_read t axioms [] taken variables formed is spelled wordless sorted named = output_read t axioms taken variables formed (sym (append-nil axioms) ∙ is) named
-axioms_read t axioms (a ∷ others) taken variables formed is spelled wordless sorted named = λ k few.
-    let s = and_parts (is_spelled_axiom a) (list_all is_spelled_axiom others) spelled in
-    let w = and_parts (is_wordless_law a) (list_all is_wordless_law others) wordless in
-    let o = and_parts (is_sorted_law t.definitions t.inputs a) (list_all (is_sorted_law t.definitions t.inputs) others) sorted in
-    let later : Bool = are_named_before (taken ++ a.name ∷ []) (variables ++ words_of a.variables) others t.output in
-    let n = and_parts (is_named_law taken variables a) later named in
-    let us : Plains = axioms_before others (last_forms t) in
-    let few_further = further k (axiom_spelling a) us few in
-    passed (suc k) (axiom_form t.definitions t.inputs taken variables (axiom_spelling a)) (λ b. after_condition (suc k) (with_axiom (front t axioms taken variables) b) us) a t
-    few_further.0 (axiom_passed t.definitions t.inputs taken variables a s.0 w.0 n.0 o.0)
-    (axioms_read t (axioms ++ a ∷ []) others (taken ++ a.name ∷ []) (variables ++ words_of a.variables) formed (append_assoc axioms (a ∷ []) others ∙ is) s.1 w.1 o.1 n.1 (suc k) few_further.1)
+-- what is still to come keeps the rules over the theory before it
+record AreKept (t : PlainFile) (before : PlainTheory) (taken variables : Taken) (cs : List PlainClaim) : Type 0 where
+  spelled : list_all is_spelled_claim cs ≡ true
+  wordless : list_all is_wordless_law (claimed cs) ≡ true
+  sorted : list_all (is_sorted_law t.definitions t.inputs) (claimed cs) ≡ true
+  named : are_named_before taken variables (claimed cs) t.output ≡ true
+  shown : are_shown before cs ≡ true
 
-condition_read : (t : PlainFile) → IsFormed t → InputsRead t.definitions t.inputs (names_before_axioms t) (later_forms t) t
+-- a claim is passed where the later forms are read
+claim_next : (t : PlainFile) (laws axioms : List PlainLaw) (claims : List PlainClaim) (taken variables : Taken) (c : PlainClaim) (us : Plains) → is_spelled_claim c ≡ true → is_wordless_law (law_of c) ≡ true
+    → is_named_law taken variables (law_of c) ≡ true → is_sorted_law t.definitions t.inputs (law_of c) ≡ true → is_shown (so_far t laws axioms) c ≡ true
+    → ConditionRead t (with_claim (front t laws axioms claims taken variables) c) us → is_claim (claim_spelling c) ≡ true → ConditionRead t (front t laws axioms claims taken variables) (more (claim_spelling c) us)
+claim_next t laws axioms claims taken variables c us spelled wordless named sorted shown later is = λ k few.
+    let few_further = further k (claim_spelling c) us few in
+    let f : Front = front t laws axioms claims taken variables in
+    ap (λ (b : Bool). if b then (at (suc k) (claim_form f.theory taken variables (claim_spelling c)) >>= λ d. after_condition (suc k) (with_claim f d) us)
+    else (at (suc k) (output_form (taken ++ variables) (claim_spelling c)) >>= λ output. after_output (suc k) f output us)) is
+    ∙ passed (suc k) (claim_form f.theory taken variables (claim_spelling c)) (λ d. after_condition (suc k) (with_claim f d) us) c t
+    few_further.0 (claim_passed f.theory taken variables c spelled wordless named sorted shown) (later (suc k) few_further.1)
+
+is_claimed : (c : PlainClaim) → is_claim (claim_spelling c) ≡ true
+is_claimed (assumed l) = refl
+is_claimed (proved l moves) = refl
+
+claims_read : (t : PlainFile) (laws axioms : List PlainLaw) (claims rest : List PlainClaim) (taken variables : Taken) → IsFormed t → claims ++ rest ≡ t.claims
+    → AreKept t (so_far t laws axioms) taken variables rest → ConditionRead t (front t laws axioms claims taken variables) (claims_before rest (last_forms t))
+claims_read t laws axioms claims [] taken variables formed is kept = output_read t laws axioms claims taken variables formed (sym (append-nil claims) ∙ is) kept.named
+claims_read t laws axioms claims (c ∷ cs) taken variables formed is kept =
+    let l : PlainLaw = law_of c in
+    let s = and_parts (is_spelled_claim c) (list_all is_spelled_claim cs) kept.spelled in
+    let w = and_parts (is_wordless_law l) (list_all is_wordless_law (claimed cs)) kept.wordless in
+    let o = and_parts (is_sorted_law t.definitions t.inputs l) (list_all (is_sorted_law t.definitions t.inputs) (claimed cs)) kept.sorted in
+    let n = and_parts (is_named_law taken variables l) (are_named_before (taken ++ l.name ∷ []) (variables ++ words_of l.variables) (claimed cs) t.output) kept.named in
+    let q = and_parts (is_shown (so_far t laws axioms) c) (are_shown (with_law (so_far t laws axioms) c) cs) kept.shown in
+    claim_next t laws axioms claims taken variables c (claims_before cs (last_forms t)) s.0 w.0 n.0 o.0 q.0
+    (claims_read t (laws_with laws c) (axioms_with axioms c) (claims ++ c ∷ []) cs (taken ++ l.name ∷ []) (variables ++ words_of l.variables) formed (append_assoc claims (c ∷ []) cs ∙ is)
+    (record { spelled = s.1; wordless = w.1; sorted = o.1; named = n.1; shown = q.1 }))
+    (is_claimed c)
+
+condition_read : (t : PlainFile) → IsFormed t → InputsRead t.definitions t.inputs (names_before_laws t) (later_forms t) t
 condition_read t formed = λ k few.
-    let us : Plains = axioms_before t.laws (last_forms t) in
+    let us : Plains = claims_before t.claims (last_forms t) in
     let few_further = further k (headed (codes "require") (one (term_spelling t.condition))) us few in
     passed (suc k) (condition_form (codes "require") t.definitions t.inputs (headed (codes "require") (one (term_spelling t.condition))))
-    (λ condition. after_condition (suc k) (front_of t.title t.definitions t.inputs (names_before_axioms t) condition) us) t.condition t
+    (λ condition. after_condition (suc k) (front_of t.title t.definitions t.inputs (names_before_laws t) condition) us) t.condition t
     few_further.0 (condition_passed (codes "require") t.definitions t.inputs t.condition formed.condition_spelled formed.condition_wordless formed.condition_sorted)
-    (axioms_read t [] t.laws (names_before_axioms t) [] formed refl formed.laws_spelled formed.laws_wordless formed.laws_sorted formed.laws_named (suc k) few_further.1)
+    (claims_read t [] [] [] t.claims (names_before_laws t) [] formed refl
+    (record { spelled = formed.claims_spelled; wordless = formed.laws_wordless; sorted = formed.laws_sorted; named = formed.laws_named; shown = formed.laws_shown }) (suc k) few_further.1)
 
 -- ---- the whole
 

@@ -24,16 +24,20 @@ use Rattle.kid_kernel.specs.Differ.{words_of}
 use Rattle.kid_term.specs.PlainLaw.{PlainLaw}
 use Rattle.kid_kernel.specs.SortedLaw.{is_sorted_law}
 use Rattle.kid_kernel.specs.Wordless.{is_wordless, is_wordless_definition, is_wordless_law}
-use Rattle.kid_theory.specs.Formed.{is_spelled_axiom, names_of, is_formed_definition, are_formed_definitions, are_named_before, IsFormed, IsFileOf}
-use Rattle.kid_theory.specs.Forms.{begins, title_form, definition_form, input_form, output_form, condition_form, is_named_law, axiom_form}
+use Rattle.kid_term.specs.PlainTheory.{PlainTheory}
+use Rattle.kid_theory.specs.Before.{theory_before, with_claim as with_law, is_shown, are_shown}
+use Rattle.kid_theory.specs.Claims.{PlainClaim, law_of, claimed}
+use Rattle.kid_theory.specs.Formed.{is_spelled_claim, is_formed_definition, are_formed_definitions, are_named_before, IsFormed, IsFileOf}
+use Rattle.kid_theory.specs.Forms.{begins, title_form, definition_form, input_form, output_form, condition_form, is_named_law, is_claim, claim_form}
 use Rattle.kid_theory.specs.Judged.{Judged}
+use Rattle.kid_theory.specs.Known.{names_of}
 use Rattle.kid_theory.specs.PlainFile.{PlainFile, output_of, relation_names}
-use Rattle.kid_theory.specs.Reading.{Read, ◌>>=◌, refused, at, Front, with_axiom, file_with, front_of, after_relation, after_output, after_condition, after_inputs, after_definitions, file_from, from_forest, file_reading}
-use Rattle.kid_theory.specs.Spelling.{axioms_before, last_forms, later_forms, from_inputs, file_spelling}
+use Rattle.kid_theory.specs.Reading.{Read, ◌>>=◌, refused, at, Front, with_claim, file_with, front_of, after_relation, after_output, after_condition, after_inputs, after_definitions, file_from, from_forest, file_reading}
+use Rattle.kid_theory.specs.Spelling.{claims_before, last_forms, later_forms, from_inputs, file_spelling}
 use Rattle.kid_theory.specs.Taken.{Taken, is_free, are_free}
 use Rattle.kid_theory.specs.declared.fault.TheoryCode.TheVariants as code
-use Rattle.kid_theory.proofs.AxiomTold.{axiom_form_told}
-use Rattle.kid_theory.proofs.FormKept.{condition_kept, definition_kept, axiom_kept}
+use Rattle.kid_theory.proofs.ClaimTold.{claim_told}
+use Rattle.kid_theory.proofs.FormKept.{condition_kept, definition_kept}
 use Rattle.kid_theory.proofs.FirstTold.{wanted_told}
 use Rattle.kid_theory.proofs.FormTold.{NameTold, title_told, condition_told, output_told, input_told, definition_form_told}
 use Rattle.kid_theory.proofs.Stages.{not_refused, staged, at_most, within, read_forest}
@@ -56,117 +60,121 @@ record LastKept (t : PlainFile) : Type 0 where
   relation_sorted : is_truth (sort_of t.definitions (relation_names t) t.relation) ≡ true
   wanted : is_wanted t.first ≡ true
 
--- axioms that are still to come, over these definitions and inputs
-record LawsKept (defs : List PlainDef) (inputs : Names) (laws : List PlainLaw) : Type 0 where
-  spelled : list_all is_spelled_axiom laws ≡ true
-  wordless : list_all is_wordless_law laws ≡ true
-  sorted : list_all (is_sorted_law defs inputs) laws ≡ true
+-- laws and axioms that are still to come, over the theory before them
+record LawsKept (before : PlainTheory) (cs : List PlainClaim) : Type 0 where
+  spelled : list_all is_spelled_claim cs ≡ true
+  wordless : list_all is_wordless_law (claimed cs) ≡ true
+  sorted : list_all (is_sorted_law before.signature.definitions before.signature.inputs) (claimed cs) ≡ true
+  shown : are_shown before cs ≡ true
 
 -- what is still to come is spelled by these forms and keeps the rules, and the forms are not too many
-record AxiomsKept (k : ℕ) (f : Front) (ts : Plains) (t : PlainFile) : Type 0 where
+record ClaimsKept (k : ℕ) (f : Front) (ts : Plains) (t : PlainFile) : Type 0 where
   few : k + forest_len ts ≤ 1024
-  rest : List PlainLaw
-  all : f.axioms ++ rest ≡ t.laws
+  rest : List PlainClaim
+  all : f.claims ++ rest ≡ t.claims
   title : f.title ≡ t.title
-  definitions : f.definitions ≡ t.definitions
-  inputs : f.inputs ≡ t.inputs
-  condition : f.condition ≡ t.condition
-  trees : ts ≡ axioms_before rest (last_forms t)
-  named : are_named_before f.taken f.variables rest t.output ≡ true
-  laws : LawsKept f.definitions f.inputs rest
+  definitions : f.theory.signature.definitions ≡ t.definitions
+  inputs : f.theory.signature.inputs ≡ t.inputs
+  condition : f.theory.spec.condition ≡ t.condition
+  trees : ts ≡ claims_before rest (last_forms t)
+  named : are_named_before f.taken f.variables (claimed rest) t.output ≡ true
+  laws : LawsKept f.theory rest
   last : LastKept t
 
 output_kept : (k : ℕ) (f : Front) (output : List ℕ × PlainSort) (v : Plain) (ts : Plains) (t : PlainFile) → NameTold (f.taken ++ f.variables) output
-    → v ≡ headed (codes "output") (named_spelling output) → after_output (suc k) f output ts ≡ Ok t → AxiomsKept k f (more v ts) t
+    → v ≡ headed (codes "output") (named_spelling output) → after_output (suc k) f output ts ≡ Ok t → ClaimsKept k f (more v ts) t
 output_kept k f output v none t told is e = absurd (not_refused (suc (suc k)) code.Form t e)
 output_kept k f output v (more u us) t told is e =
-    let names : Names = f.inputs ++ output ∷ [] in
+    let defs : List PlainDef = f.theory.signature.definitions in
+    let names : Names = f.theory.signature.inputs ++ output ∷ [] in
     let stage : PlainTerm → Read PlainFile = λ relation. after_relation (suc (suc k)) (file_with f output relation) us in
-    let form : Judged PlainTerm = condition_form (codes "ensure") f.definitions names u in
+    let form : Judged PlainTerm = condition_form (codes "ensure") defs names u in
     let a = staged (suc (suc k)) form stage t e in
     let relation : PlainTerm = a.0 in
-    let c = condition_told (codes "ensure") f.definitions names u relation a.1 in
+    let c = condition_told (codes "ensure") defs names u relation a.1 in
     let number = within (suc (suc k)) form stage t e in
     let last = wanted_told (suc (suc k)) f output relation t us number a.2 in
     let tree = c.2 in
     let trees = last.trees in
-    subst (AxiomsKept k f (more v (more u us))) last.whole
+    subst (ClaimsKept k f (more v (more u us))) last.whole
     (record {
       few = one_more k v (more u us) (one_more (suc k) u us last.few);
       rest = [];
-      all = append-nil f.axioms;
+      all = append-nil f.claims;
       title = refl;
       definitions = refl;
       inputs = refl;
       condition = refl;
       trees = λ i. more (is i) (more (tree i) (trees i));
       named = told.free;
-      laws = record { spelled = refl; wordless = refl; sorted = refl };
+      laws = record { spelled = refl; wordless = refl; sorted = refl; shown = refl };
       last = record {
         output_spelled = told.spelled;
         sort_allowed = told.allowed;
         relation_spelled = c.1;
-        relation_wordless = condition_kept (codes "ensure") f.definitions names u relation a.1;
+        relation_wordless = condition_kept (codes "ensure") defs names u relation a.1;
         relation_sorted = ap is_truth c.0;
         wanted = last.wanted;
       };
     })
 
 abbrev ConditionKept : ℕ → Plains → PlainFile → Type 0
-ConditionKept k ts t = (f : Front) → after_condition k f ts ≡ Ok t → AxiomsKept k f ts t
+ConditionKept k ts t = (f : Front) → after_condition k f ts ≡ Ok t → ClaimsKept k f ts t
 
-axiom_before : (k : ℕ) (f : Front) (a : PlainLaw) (u : Plain) (us : Plains) (t : PlainFile) → AxiomsKept (suc k) (with_axiom f a) us t
-    → axiom_form f.definitions f.inputs f.taken f.variables u ≡ Ok a → AxiomsKept k f (more u us) t
-axiom_before k f a u us t after form =
-    let told = axiom_form_told f.definitions f.inputs f.taken f.variables u a form in
-    let kept = axiom_kept f.definitions f.inputs f.taken f.variables u a form in
-    let tree = told.2 in
+claim_before : (k : ℕ) (f : Front) (c : PlainClaim) (u : Plain) (us : Plains) (t : PlainFile) → ClaimsKept (suc k) (with_claim f c) us t
+    → claim_form f.theory f.taken f.variables u ≡ Ok c → ClaimsKept k f (more u us) t
+claim_before k f c u us t after form =
+    let told = claim_told f.theory f.taken f.variables u c form in
+    let l : PlainLaw = law_of c in
+    let tree = told.tree in
     let trees = after.trees in
+    let is_sorted : PlainLaw → Bool = is_sorted_law f.theory.signature.definitions f.theory.signature.inputs in
     record {
       few = one_more k u us after.few;
-      rest = a ∷ after.rest;
-      all = joined f.axioms a after.rest t.laws after.all;
+      rest = c ∷ after.rest;
+      all = joined f.claims c after.rest t.claims after.all;
       title = after.title;
       definitions = after.definitions;
       inputs = after.inputs;
       condition = after.condition;
       trees = λ i. more (tree i) (trees i);
-      named = and_both (is_named_law f.taken f.variables a) (are_named_before (f.taken ++ a.name ∷ []) (f.variables ++ words_of a.variables) after.rest t.output) kept.0 after.named;
+      named = and_both (is_named_law f.taken f.variables l) (are_named_before (f.taken ++ l.name ∷ []) (f.variables ++ words_of l.variables) (claimed after.rest) t.output) told.named after.named;
       laws = record {
-        spelled = and_both (is_spelled_axiom a) (list_all is_spelled_axiom after.rest) told.1 after.laws.spelled;
-        wordless = and_both (is_wordless_law a) (list_all is_wordless_law after.rest) kept.1 after.laws.wordless;
-        sorted = and_both (is_sorted_law f.definitions f.inputs a) (list_all (is_sorted_law f.definitions f.inputs) after.rest) told.0 after.laws.sorted;
+        spelled = and_both (is_spelled_claim c) (list_all is_spelled_claim after.rest) told.spelled after.laws.spelled;
+        wordless = and_both (is_wordless_law l) (list_all is_wordless_law (claimed after.rest)) told.wordless after.laws.wordless;
+        sorted = and_both (is_sorted l) (list_all is_sorted (claimed after.rest)) told.sorted after.laws.sorted;
+        shown = and_both (is_shown f.theory c) (are_shown (with_law f.theory c) after.rest) told.shown after.laws.shown;
       };
       last = after.last;
     }
 
-axiom_read : (k : ℕ) (f : Front) (u : Plain) (us : Plains) (t : PlainFile) → ConditionKept (suc k) us t
+claim_read : (k : ℕ) (f : Front) (u : Plain) (us : Plains) (t : PlainFile) → ConditionKept (suc k) us t
     → (b : Bool)
     → (if b
-    then (at (suc k) (axiom_form f.definitions f.inputs f.taken f.variables u) >>= λ a. after_condition (suc k) (with_axiom f a) us)
+    then (at (suc k) (claim_form f.theory f.taken f.variables u) >>= λ c. after_condition (suc k) (with_claim f c) us)
     else (at (suc k) (output_form (f.taken ++ f.variables) u) >>= λ output. after_output (suc k) f output us)) ≡ Ok t
-    → AxiomsKept k f (more u us) t
-axiom_read k f u us t kept true e =
-    let a = staged (suc k) (axiom_form f.definitions f.inputs f.taken f.variables u) (λ a. after_condition (suc k) (with_axiom f a) us) t e in
-    axiom_before k f a.0 u us t (kept (with_axiom f a.0) a.2) a.1
-axiom_read k f u us t kept false e =
+    → ClaimsKept k f (more u us) t
+claim_read k f u us t kept true e =
+    let a = staged (suc k) (claim_form f.theory f.taken f.variables u) (λ c. after_condition (suc k) (with_claim f c) us) t e in
+    claim_before k f a.0 u us t (kept (with_claim f a.0) a.2) a.1
+claim_read k f u us t kept false e =
     let a = staged (suc k) (output_form (f.taken ++ f.variables) u) (λ output. after_output (suc k) f output us) t e in
     let told = output_told (f.taken ++ f.variables) u a.0 a.1 in
     output_kept k f a.0 u us t told.0 told.1 a.2
 
 condition_read : (k : ℕ) (ts : Plains) (t : PlainFile) → ConditionKept k ts t
 condition_read k none t f e = absurd (not_refused (suc k) code.Form t e)
-condition_read k (more u us) t f e = axiom_read k f u us t (λ g p. condition_read (suc k) us t g p) (begins (codes "axiom") u) e
+condition_read k (more u us) t f e = claim_read k f u us t (λ g p. condition_read (suc k) us t g p) (is_claim u) e
 
 -- ---- the inputs
 
 -- what comes after the inputs, where these names are taken
 record LaterKept (taken : Taken) (t : PlainFile) : Type 0 where
-  named : are_named_before taken [] t.laws t.output ≡ true
+  named : are_named_before taken [] (claimed t.claims) t.output ≡ true
   spelled : is_spelled_term t.condition ≡ true
   wordless : is_wordless t.condition ≡ true
   sorted : is_truth (sort_of t.definitions t.inputs t.condition) ≡ true
-  laws : LawsKept t.definitions t.inputs t.laws
+  laws : LawsKept (theory_before t.definitions t.inputs t.condition) t.claims
   last : LastKept t
 
 -- inputs that are still to come, and what comes after them
@@ -187,27 +195,27 @@ record InputsKept (k : ℕ) (title : List ℕ) (defs : List PlainDef) (inputs : 
   names : NamesKept taken rest t
 
 require_later : (title : List ℕ) (defs : List PlainDef) (inputs : Names) (taken : Taken) (c : PlainTerm) (k : ℕ) (us : Plains) (t : PlainFile)
-    → AxiomsKept k (front_of title defs inputs taken c) us t → sort_of defs inputs c ≡ Ok bools → is_spelled_term c ≡ true → is_wordless c ≡ true → LaterKept taken t
+    → ClaimsKept k (front_of title defs inputs taken c) us t → sort_of defs inputs c ≡ Ok bools → is_spelled_term c ≡ true → is_wordless c ≡ true → LaterKept taken t
 require_later title defs inputs taken c k us t after sorted spelled wordless =
     let ds = after.definitions in
     let ns = after.inputs in
     let condition = after.condition in
-    let is : after.rest ≡ t.laws = after.all in
+    let is : after.rest ≡ t.claims = after.all in
     record {
-      named = subst (λ (laws : List PlainLaw). are_named_before taken [] laws t.output ≡ true) is after.named;
+      named = subst (λ (cs : List PlainClaim). are_named_before taken [] (claimed cs) t.output ≡ true) is after.named;
       spelled = subst (λ (b : PlainTerm). is_spelled_term b ≡ true) condition spelled;
       wordless = subst (λ (b : PlainTerm). is_wordless b ≡ true) condition wordless;
       sorted = sym (λ i. is_truth (sort_of (ds i) (ns i) (condition i))) ∙ ap is_truth sorted;
-      laws = subst (λ (es : List PlainDef). LawsKept es t.inputs t.laws) ds (subst (λ (ms : Names). LawsKept defs ms t.laws) ns (subst (LawsKept defs inputs) is after.laws));
+      laws = subst (LawsKept (theory_before t.definitions t.inputs t.condition)) is (subst (λ (before : PlainTheory). LawsKept before after.rest) (λ i. theory_before (ds i) (ns i) (condition i)) after.laws);
       last = after.last;
     }
 
 require_before : (k : ℕ) (title : List ℕ) (defs : List PlainDef) (inputs : Names) (taken : Taken) (c : PlainTerm) (u : Plain) (us : Plains) (t : PlainFile) → length inputs ≤ 16
-    → AxiomsKept (suc k) (front_of title defs inputs taken c) us t → condition_form (codes "require") defs inputs u ≡ Ok c → InputsKept k title defs inputs taken (more u us) t
+    → ClaimsKept (suc k) (front_of title defs inputs taken c) us t → condition_form (codes "require") defs inputs u ≡ Ok c → InputsKept k title defs inputs taken (more u us) t
 require_before k title defs inputs taken c u us t room after form =
     let told = condition_told (codes "require") defs inputs u c form in
     let tree = told.2 ∙ ap (λ (b : PlainTerm). headed (codes "require") (one (term_spelling b))) after.condition in
-    let trees = after.trees ∙ ap (λ (laws : List PlainLaw). axioms_before laws (last_forms t)) after.all in
+    let trees = after.trees ∙ ap (λ (cs : List PlainClaim). claims_before cs (last_forms t)) after.all in
     record {
       few = one_more k u us after.few;
       rest = [];
@@ -379,10 +387,11 @@ forms_formed u us title t form kept =
         condition_spelled = later.spelled;
         condition_wordless = later.wordless;
         condition_sorted = later.sorted;
-        laws_spelled = later.laws.spelled;
+        claims_spelled = later.laws.spelled;
         laws_wordless = later.laws.wordless;
         laws_sorted = later.laws.sorted;
         laws_named = later.named;
+        laws_shown = later.laws.shown;
         output_spelled = later.last.output_spelled;
         sort_allowed = later.last.sort_allowed;
         relation_spelled = later.last.relation_spelled;

@@ -1,8 +1,8 @@
--- The tree of a part has its shape: names, terms, definitions and axioms read back.
+-- The tree of a part has its shape: names, terms, definitions, laws and axioms read back.
 use Rattle.std.proofs.Common.{◌≡◌, ℕ, Bool, true, false, List, [], ◌∷◌, Option, Some, None, refl, ap, ◌∙◌}
 use Rattle.std.specs.Prelude.{◌&&◌, not, option_map, if◌then◌else◌, codes}
 use Rattle.std.specs.List.{list_all}
-use Rattle.kid_sexp.specs.Plain.{Plain, Plains, one}
+use Rattle.kid_sexp.specs.Plain.{Plain, Plains, atom, list, one}
 use Rattle.kid_value.specs.PlainSort.{PlainSort}
 use Rattle.kid_value.specs.SortOrder.{both}
 use Rattle.kid_value.proofs.SortLemmas.{and_parts}
@@ -20,9 +20,13 @@ use Rattle.kid_codec.proofs.SortBack.{spelled_parts}
 use Rattle.kid_codec.proofs.TermBack.{term_back}
 use Rattle.kid_term.specs.PlainLaw.{PlainConclusion, equal, holds, PlainLaw}
 use Rattle.kid_kernel.specs.Wordless.{is_wordless, is_wordless_definition, is_wordless_conclusion, is_wordless_law}
-use Rattle.kid_theory.specs.Formed.{is_spelled_conclusion, is_spelled_axiom}
-use Rattle.kid_theory.specs.Shapes.{if_theory_term, theory_term, theory_terms, declared_pair, declared_each, lone, lone_term, declared_form, with_body, definition_shape, conclusion_shape, with_conclusion, axiom_shape}
-use Rattle.kid_theory.specs.Spelling.{conclusion_spelling, axiom_spelling}
+use Rattle.kid_moves.specs.PlainRule.{PlainMove}
+use Rattle.kid_lines.specs.LineSpelling.{is_spelled_move}
+use Rattle.kid_lines.proofs.MovesRead.{moves_read}
+use Rattle.kid_theory.specs.Claims.{assumed, proved}
+use Rattle.kid_theory.specs.Formed.{is_spelled_conclusion, is_spelled_law}
+use Rattle.kid_theory.specs.Shapes.{if_theory_term, theory_term, theory_terms, declared_pair, declared_each, lone, lone_term, declared_form, with_body, definition_shape, conclusion_shape, with_conclusion, axiom_of, axiom_shape, spelled_moves, law_shape}
+use Rattle.kid_theory.specs.Spelling.{conclusion_spelling, move_spellings, claim_spelling}
 
 form_back : (w : List ℕ) (ts : Plains) → form w (headed w ts) ≡ Some ts
 form_back w ts = ap (λ (b : Bool). if b then Some ts else None) (bytes_eq-itself w)
@@ -69,7 +73,7 @@ names_shaped (n ∷ ns) h =
     let q = names_shaped ns r.1 in
     λ i. both (λ m ms. m ∷ ms) (p i) (q i)
 
--- ---- definitions and axioms
+-- ---- definitions and laws
 
 pub definition_shaped : (d : PlainDef) → is_spelled_definition d ≡ true → is_wordless_definition d ≡ true → definition_shape (definition_spelling d) ≡ Some d
 definition_shaped d spelled wordless =
@@ -89,8 +93,10 @@ conclusion_shaped (equal l r) spelled wordless =
     λ i. both equal (p i) (q i)
 conclusion_shaped (holds c) spelled wordless = ap (option_map holds) (lone_term_shaped (codes "holds") c spelled wordless)
 
-pub axiom_shaped : (a : PlainLaw) → is_spelled_axiom a ≡ true → is_wordless_law a ≡ true → axiom_shape (axiom_spelling a) ≡ Some a
-axiom_shaped a spelled wordless =
+-- what a law says, read from the trees of its parts
+pub law_parts_shaped : (a : PlainLaw) → is_spelled_law a ≡ true → is_wordless_law a ≡ true
+    → axiom_of (atom a.name, list (names_spelling a.variables), headed (codes "given") (term_spellings (term_row a.conditions)), conclusion_spelling a.conclusion) ≡ Some a
+law_parts_shaped a spelled wordless =
     let c = and_parts (is_name a.name && list_all is_spelled_name a.variables && are_spelled_terms (term_row a.conditions)) (is_spelled_conclusion a.conclusion) spelled in
     let b = and_parts (is_name a.name && list_all is_spelled_name a.variables) (are_spelled_terms (term_row a.conditions)) c.0 in
     let w = and_parts (list_all is_wordless a.conditions) (is_wordless_conclusion a.conclusion) wordless in
@@ -98,3 +104,21 @@ axiom_shaped a spelled wordless =
     let given = terms_shaped a.conditions b.1 w.0 in
     let conclusion = conclusion_shaped a.conclusion c.1 w.1 in
     λ i. names i >>= λ vs. with_conclusion a.name vs (given i) (conclusion i)
+
+moves_shaped : (moves : List PlainMove) → list_all is_spelled_move moves ≡ true → spelled_moves (move_spellings moves) ≡ Some moves
+moves_shaped [] h = refl
+moves_shaped (m ∷ moves) h =
+    let r = and_parts (is_spelled_move m) (list_all is_spelled_move moves) h in
+    let p = moves_read.back m r.0 in
+    let q = moves_shaped moves r.1 in
+    λ i. p i >>= λ n. option_map (λ ns. n ∷ ns) (q i)
+
+pub assumed_shaped : (a : PlainLaw) → is_spelled_law a ≡ true → is_wordless_law a ≡ true → axiom_shape (claim_spelling (assumed a)) ≡ Some a
+assumed_shaped a spelled wordless = law_parts_shaped a spelled wordless
+
+pub proved_shaped : (a : PlainLaw) (moves : List PlainMove) → is_spelled_law a ≡ true → list_all is_spelled_move moves ≡ true → is_wordless_law a ≡ true
+    → law_shape (claim_spelling (proved a moves)) ≡ Some (a, moves)
+proved_shaped a moves spelled moves_spelled wordless =
+    let p = law_parts_shaped a spelled wordless in
+    let q = moves_shaped moves moves_spelled in
+    λ i. both (λ l ms. (l, ms)) (p i) (q i)

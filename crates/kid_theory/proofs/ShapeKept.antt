@@ -15,7 +15,7 @@ use Rattle.kid_codec.specs.TermSpelling.{spelled_term}
 use Rattle.kid_codec.proofs.Found.{same_some, mapped, both_some, bind_some}
 use Rattle.kid_term.specs.PlainLaw.{PlainConclusion, equal, holds, PlainLaw}
 use Rattle.kid_kernel.specs.Wordless.{is_wordless, is_wordless_definition, is_wordless_conclusion, is_wordless_law}
-use Rattle.kid_theory.specs.Shapes.{word_of, if_theory_term, theory_term, theory_terms, declared_names, lone, lone_term, with_body, definition_of, definition_shape, given_terms, equal_sides, equal_parts, holds_shape, equal_or, conclusion_shape, with_conclusion, axiom_of, axiom_shape}
+use Rattle.kid_theory.specs.Shapes.{word_of, if_theory_term, theory_term, theory_terms, declared_names, lone, lone_term, with_body, definition_of, definition_shape, given_terms, equal_sides, equal_parts, holds_shape, equal_or, conclusion_shape, with_conclusion, axiom_of}
 
 wordless_by : (m u : PlainTerm) (b : Bool) → holds_word_operator m ≡ b → (if b then None else Some m) ≡ Some u → is_wordless u ≡ true
 wordless_by m u true is e = cc
@@ -54,7 +54,7 @@ definition_of_kept p d e =
 pub definition_shape_kept : (t : Plain) (d : PlainDef) → definition_shape t ≡ Some d → is_wordless_definition d ≡ true
 definition_shape_kept t d e = let c = bind_some (form (codes "def") t >>= quadruple) definition_of d e in definition_of_kept c.0 d c.2
 
--- ---- axioms
+-- ---- laws
 
 equal_kept : (ts : Plains) (c : PlainConclusion) → equal_parts ts ≡ Some c → is_wordless_conclusion c ≡ true
 equal_kept ts c e =
@@ -70,7 +70,7 @@ conclusion_kept : (o : Option Plains) (t : Plain) (c : PlainConclusion) → equa
 conclusion_kept (Some ts) t c e = equal_kept ts c e
 conclusion_kept None t c e = holds_kept t c e
 
-axiom_of_kept : (p : Plain × Plain × Plain × Plain) (a : PlainLaw) → axiom_of p ≡ Some a → is_wordless_law a ≡ true
+pub axiom_of_kept : (p : Plain × Plain × Plain × Plain) (a : PlainLaw) → axiom_of p ≡ Some a → is_wordless_law a ≡ true
 axiom_of_kept p a e =
     let named : List ℕ → Option PlainLaw = λ n. declared_names p.1 >>= λ vs. with_conclusion n vs (given_terms p.2) (conclusion_shape p.3) in
     let w = bind_some (word_of p.0) named a e in
@@ -83,6 +83,3 @@ axiom_of_kept p a e =
     let c : PlainConclusion = m.1 in
     let given = bind_some (form (codes "given") p.2) theory_terms cs m.2 in
     ap is_wordless_law (sym m.4) ∙ and_both (list_all is_wordless cs) (is_wordless_conclusion c) (terms_kept given.0 cs given.2) (conclusion_kept (form (codes "equal") p.3) p.3 c m.3)
-
-pub axiom_shape_kept : (t : Plain) (a : PlainLaw) → axiom_shape t ≡ Some a → is_wordless_law a ≡ true
-axiom_shape_kept t a e = let c = bind_some (form (codes "axiom") t >>= quadruple) axiom_of a e in axiom_of_kept c.0 a c.2

@@ -12,15 +12,15 @@ use Rattle.kid_term.specs.Names.{Names, PlainDef}
 use Rattle.kid_term.specs.TermView.{plain_term}
 use Rattle.kid_term.specs.declared.Term.{Term}
 use Rattle.kid_term.specs.declared.definition.Def.{Def}
-use Rattle.kid_kernel.specs.LawView.{plain_axiom}
-use Rattle.kid_kernel.specs.declared.law.Axiom.{Axiom}
 use Rattle.kid_theory.specs.Judged.{Judged}
 use Rattle.kid_theory.specs.Answers.{CodeFails, Judges, Fails, Reads, fault_at, placed, located}
+use Rattle.kid_theory.specs.ClaimView.{plain_claim}
 use Rattle.kid_theory.specs.FileView.{plain_file}
-use Rattle.kid_theory.specs.Forms.{begins, definition_form, input_form, output_form, condition_form, first_form, axiom_form}
+use Rattle.kid_theory.specs.Forms.{begins, definition_form, input_form, output_form, condition_form, first_form, is_claim, claim_form}
 use Rattle.kid_theory.specs.PlainFile.{PlainFile}
-use Rattle.kid_theory.specs.Reading.{Read, ◌>>=◌, refused, numbered, at, Front, with_axiom, file_with, front_of, at_end, with_first, after_relation, after_output, after_condition, after_inputs, after_definitions}
+use Rattle.kid_theory.specs.Reading.{Read, ◌>>=◌, refused, numbered, at, Front, with_claim, file_with, front_of, at_end, with_first, after_relation, after_output, after_condition, after_inputs, after_definitions}
 use Rattle.kid_theory.specs.Taken.{Taken}
+use Rattle.kid_theory.specs.declared.claims.Claim.{Claim}
 use Rattle.kid_theory.specs.declared.fault.TheoryCode.{TheoryCode}
 use Rattle.kid_theory.specs.declared.fault.TheoryCode.TheVariants as code
 use Rattle.kid_theory.specs.declared.fault.TheoryFault.{TheoryFault}
@@ -76,30 +76,30 @@ failed view r there k fault f o staged judged found =
 
 output-stage : (k m : ℕ) (f : Front) (output : List ℕ × PlainSort) (trees rest : List Tree) (tree : Tree) → suc k ≡ m → trees ≡ tree ∷ rest
     → after_output k f output (plains trees)
-    ≡ (at m (condition_form (codes "ensure") f.definitions (f.inputs ++ output ∷ []) (plain tree)) >>= λ relation. after_relation m (file_with f output relation) (plains rest))
+    ≡ (at m (condition_form (codes "ensure") f.theory.signature.definitions (f.theory.signature.inputs ++ output ∷ []) (plain tree)) >>= λ relation. after_relation m (file_with f output relation) (plains rest))
 output-stage k m f output trees rest tree e are =
     ap (λ (ts : List Tree). after_output k f output (plains ts)) are
-    ∙ ap (λ j. at j (condition_form (codes "ensure") f.definitions (f.inputs ++ output ∷ []) (plain tree)) >>= λ relation. after_relation j (file_with f output relation) (plains rest)) e
+    ∙ ap (λ j. at j (condition_form (codes "ensure") f.theory.signature.definitions (f.theory.signature.inputs ++ output ∷ []) (plain tree)) >>= λ relation. after_relation j (file_with f output relation) (plains rest)) e
 
 abbrev condition_if : ℕ → Front → Tree → List Tree → Bool → Read PlainFile
 condition_if k f tree rest b =
     if b
-    then (at k (axiom_form f.definitions f.inputs f.taken f.variables (plain tree)) >>= λ a. after_condition k (with_axiom f a) (plains rest))
+    then (at k (claim_form f.theory f.taken f.variables (plain tree)) >>= λ c. after_condition k (with_claim f c) (plains rest))
     else (at k (output_form (f.taken ++ f.variables) (plain tree)) >>= λ output. after_output k f output (plains rest))
 
-condition_stage : (k m : ℕ) (f : Front) (trees rest : List Tree) (tree : Tree) (b : Bool) → suc k ≡ m → trees ≡ tree ∷ rest → begins (codes "axiom") (plain tree) ≡ b
+condition_stage : (k m : ℕ) (f : Front) (trees rest : List Tree) (tree : Tree) (b : Bool) → suc k ≡ m → trees ≡ tree ∷ rest → is_claim (plain tree) ≡ b
     → after_condition k f (plains trees) ≡ condition_if m f tree rest b
 condition_stage k m f trees rest tree b e are is =
     ap (λ (ts : List Tree). after_condition k f (plains ts)) are
-    ∙ ap (λ j. condition_if j f tree rest (begins (codes "axiom") (plain tree))) e
+    ∙ ap (λ j. condition_if j f tree rest (is_claim (plain tree))) e
     ∙ ap (λ c. condition_if m f tree rest c) is
 
-axiom-stage : (k m : ℕ) (f : Front) (trees rest : List Tree) (tree : Tree) → suc k ≡ m → trees ≡ tree ∷ rest → begins (codes "axiom") (plain tree) ≡ true
+claim-stage : (k m : ℕ) (f : Front) (trees rest : List Tree) (tree : Tree) → suc k ≡ m → trees ≡ tree ∷ rest → is_claim (plain tree) ≡ true
     → after_condition k f (plains trees)
-    ≡ (at m (axiom_form f.definitions f.inputs f.taken f.variables (plain tree)) >>= λ a. after_condition m (with_axiom f a) (plains rest))
-axiom-stage k m f trees rest tree e are is = condition_stage k m f trees rest tree true e are is
+    ≡ (at m (claim_form f.theory f.taken f.variables (plain tree)) >>= λ c. after_condition m (with_claim f c) (plains rest))
+claim-stage k m f trees rest tree e are is = condition_stage k m f trees rest tree true e are is
 
-named-stage : (k m : ℕ) (f : Front) (trees rest : List Tree) (tree : Tree) → suc k ≡ m → trees ≡ tree ∷ rest → begins (codes "axiom") (plain tree) ≡ false
+named-stage : (k m : ℕ) (f : Front) (trees rest : List Tree) (tree : Tree) → suc k ≡ m → trees ≡ tree ∷ rest → is_claim (plain tree) ≡ false
     → after_condition k f (plains trees)
     ≡ (at m (output_form (f.taken ++ f.variables) (plain tree)) >>= λ output. after_output m f output (plains rest))
 named-stage k m f trees rest tree e are is = condition_stage k m f trees rest tree false e are is
@@ -167,25 +167,25 @@ first-next k m t u trees rest tree r n e are judged found is =
     ∙ ap (λ v. at_end m v (plains rest)) (sym is)
 
 pub relation-next : (k m : ℕ) (f : Front) (output : List ℕ × PlainSort) (trees rest : List Tree) (tree : Tree) (r : Result Term TheoryCode) (x : Term) (t : PlainFile)
-    → suc k ≡ m → trees ≡ tree ∷ rest → Judges plain_term r (condition_form (codes "ensure") f.definitions (f.inputs ++ output ∷ []) (plain tree)) → located m r ≡ Ok x
+    → suc k ≡ m → trees ≡ tree ∷ rest → Judges plain_term r (condition_form (codes "ensure") f.theory.signature.definitions (f.theory.signature.inputs ++ output ∷ []) (plain tree)) → located m r ≡ Ok x
     → t ≡ file_with f output (plain_term x)
     → after_output k f output (plains trees) ≡ after_relation m t (plains rest)
 relation-next k m f output trees rest tree r x t e are judged found is =
-    held plain_term r (condition_form (codes "ensure") f.definitions (f.inputs ++ output ∷ []) (plain tree)) m x (λ relation. after_relation m (file_with f output relation) (plains rest))
+    held plain_term r (condition_form (codes "ensure") f.theory.signature.definitions (f.theory.signature.inputs ++ output ∷ []) (plain tree)) m x (λ relation. after_relation m (file_with f output relation) (plains rest))
     (after_output k f output (plains trees)) (output-stage k m f output trees rest tree e are) judged found
     ∙ ap (λ u. after_relation m u (plains rest)) (sym is)
 
-pub axiom-next : (k m : ℕ) (f g : Front) (trees rest : List Tree) (tree : Tree) (r : Result Axiom TheoryCode) (x : Axiom)
-    → suc k ≡ m → trees ≡ tree ∷ rest → begins (codes "axiom") (plain tree) ≡ true → Judges plain_axiom r (axiom_form f.definitions f.inputs f.taken f.variables (plain tree))
-    → located m r ≡ Ok x → g ≡ with_axiom f (plain_axiom x)
+pub claim-next : (k m : ℕ) (f g : Front) (trees rest : List Tree) (tree : Tree) (r : Result Claim TheoryCode) (x : Claim)
+    → suc k ≡ m → trees ≡ tree ∷ rest → is_claim (plain tree) ≡ true → Judges plain_claim r (claim_form f.theory f.taken f.variables (plain tree))
+    → located m r ≡ Ok x → g ≡ with_claim f (plain_claim x)
     → after_condition k f (plains trees) ≡ after_condition m g (plains rest)
-axiom-next k m f g trees rest tree r x e are begun judged found is =
-    held plain_axiom r (axiom_form f.definitions f.inputs f.taken f.variables (plain tree)) m x (λ a. after_condition m (with_axiom f a) (plains rest))
-    (after_condition k f (plains trees)) (axiom-stage k m f trees rest tree e are begun) judged found
+claim-next k m f g trees rest tree r x e are begun judged found is =
+    held plain_claim r (claim_form f.theory f.taken f.variables (plain tree)) m x (λ c. after_condition m (with_claim f c) (plains rest))
+    (after_condition k f (plains trees)) (claim-stage k m f trees rest tree e are begun) judged found
     ∙ ap (λ h. after_condition m h (plains rest)) (sym is)
 
 pub output-next : (k m : ℕ) (f : Front) (trees rest : List Tree) (tree : Tree) (r : Result (List ℕ × Sort) TheoryCode) (x : List ℕ × Sort)
-    → suc k ≡ m → trees ≡ tree ∷ rest → begins (codes "axiom") (plain tree) ≡ false → Judges plain_name r (output_form (f.taken ++ f.variables) (plain tree))
+    → suc k ≡ m → trees ≡ tree ∷ rest → is_claim (plain tree) ≡ false → Judges plain_name r (output_form (f.taken ++ f.variables) (plain tree))
     → located m r ≡ Ok x
     → after_condition k f (plains trees) ≡ after_output m f (plain_name x) (plains rest)
 output-next k m f trees rest tree r x e are begun judged found =
@@ -222,11 +222,25 @@ definition-next k m title same defs more taken now trees rest tree r x e are beg
 -- ---- refusals
 
 pub output-refused : (k m : ℕ) (f : Front) (trees rest : List Tree) (tree : Tree) (r : Result (List ℕ × Sort) TheoryCode) (fault : TheoryFault)
-    → suc k ≡ m → trees ≡ tree ∷ rest → begins (codes "axiom") (plain tree) ≡ false → Judges plain_name r (output_form (f.taken ++ f.variables) (plain tree))
+    → suc k ≡ m → trees ≡ tree ∷ rest → is_claim (plain tree) ≡ false → Judges plain_name r (output_form (f.taken ++ f.variables) (plain tree))
     → located m r ≡ Err fault → Fails fault fault.code (after_condition k f (plains trees))
 output-refused k m f trees rest tree r fault e are begun judged found =
     failed plain_name r (output_form (f.taken ++ f.variables) (plain tree)) m fault (λ output. after_output m f output (plains rest))
     (after_condition k f (plains trees)) (named-stage k m f trees rest tree e are begun) judged found
+
+pub relation-refused : (k m : ℕ) (f : Front) (output : List ℕ × PlainSort) (trees rest : List Tree) (tree : Tree) (r : Result Term TheoryCode) (fault : TheoryFault)
+    → suc k ≡ m → trees ≡ tree ∷ rest → Judges plain_term r (condition_form (codes "ensure") f.theory.signature.definitions (f.theory.signature.inputs ++ output ∷ []) (plain tree))
+    → located m r ≡ Err fault → Fails fault fault.code (after_output k f output (plains trees))
+relation-refused k m f output trees rest tree r fault e are judged found =
+    failed plain_term r (condition_form (codes "ensure") f.theory.signature.definitions (f.theory.signature.inputs ++ output ∷ []) (plain tree)) m fault
+    (λ relation. after_relation m (file_with f output relation) (plains rest)) (after_output k f output (plains trees)) (output-stage k m f output trees rest tree e are) judged found
+
+pub claim-refused : (k m : ℕ) (f : Front) (trees rest : List Tree) (tree : Tree) (r : Result Claim TheoryCode) (fault : TheoryFault)
+    → suc k ≡ m → trees ≡ tree ∷ rest → is_claim (plain tree) ≡ true → Judges plain_claim r (claim_form f.theory f.taken f.variables (plain tree))
+    → located m r ≡ Err fault → Fails fault fault.code (after_condition k f (plains trees))
+claim-refused k m f trees rest tree r fault e are begun judged found =
+    failed plain_claim r (claim_form f.theory f.taken f.variables (plain tree)) m fault (λ c. after_condition m (with_claim f c) (plains rest))
+    (after_condition k f (plains trees)) (claim-stage k m f trees rest tree e are begun) judged found
 
 -- an error is handed on
 pub handed : {X Y : Type 0} (view : X → Y) (r : Result X TheoryFault) (fault : TheoryFault) (there : Read Y) → IsErrAnd r (λ e. e ≡ fault) → Fails fault fault.code there → Reads view r there

@@ -7,10 +7,10 @@ use Rattle.kid_theory.specs.declared.file.TheoryFile.{TheoryFile}
 abbrev pub plain_file : TheoryFile → PlainFile
 plain_file f = record {
   title = f.title;
-  definitions = f.definitions;
-  inputs = f.inputs;
+  definitions = f.signature.definitions;
+  inputs = f.signature.inputs;
   condition = plain_term f.condition;
-  laws = f.laws;
+  claims = f.claims;
   output = f.output;
   sort = plain_sort f.sort;
   relation = plain_term f.relation;

@@ -1,5 +1,5 @@
 -- The forms of a theory: what each holds by its shape, and the rules that it meets, in the order in which they are tested.
-use Rattle.std.specs.Prelude.{ℕ, nat_lt, ℤ, pos, int_le, Bool, not, ◌&&◌, List, [], ◌∷◌, ◌++◌, length, Ok, codes}
+use Rattle.std.specs.Prelude.{ℕ, nat_lt, ℤ, pos, int_le, Bool, not, ◌&&◌, ◌||◌, List, [], ◌∷◌, ◌++◌, length, Ok, if◌then◌else◌, codes}
 use Rattle.kid_sexp.specs.Plain.{Plain, Plains}
 use Rattle.kid_value.specs.PlainSort.{PlainSort}
 use Rattle.kid_value.specs.Rows.Kinds.{natural}
@@ -11,11 +11,15 @@ use Rattle.kid_sorting.specs.Declaring.{is_truth, is_sorted_definition, is_shall
 use Rattle.kid_codec.specs.Name.{is_name}
 pub use Rattle.kid_codec.specs.Shape.{begins}
 use Rattle.kid_term.specs.PlainLaw.{PlainLaw}
+use Rattle.kid_term.specs.PlainTheory.{PlainTheory}
+use Rattle.kid_moves.specs.PlainRule.{PlainMove}
 use Rattle.kid_kernel.specs.SortedLaw.{is_sorted_law}
+use Rattle.kid_theory.specs.Claims.{PlainClaim, assumed, proved}
 use Rattle.kid_theory.specs.Judged.{Judged, ◌>>=◌, shaped, tested}
+use Rattle.kid_theory.specs.Proof.{is_proved}
 use Rattle.kid_theory.specs.Taken.{Taken, is_free, are_free}
 use Rattle.kid_theory.specs.Ahead.{calls_ahead}
-use Rattle.kid_theory.specs.Shapes.{lone_word, lone_number, lone_term, declared_form, definition_shape, axiom_shape}
+use Rattle.kid_theory.specs.Shapes.{lone_word, lone_number, lone_term, declared_form, definition_shape, axiom_shape, law_shape}
 use Rattle.kid_theory.specs.declared.fault.TheoryCode.TheVariants as code
 
 -- ---- (theory NAME)
@@ -72,3 +76,25 @@ judged_law defs inputs taken variables l =
 
 abbrev pub axiom_form : List PlainDef → Names → Taken → Taken → Plain → Judged PlainLaw
 axiom_form defs inputs taken variables t = shaped (axiom_shape t) >>= judged_law defs inputs taken variables
+
+-- ---- (law NAME ((NAME SORT) ..) (given TERM ..) CONCLUSION (by MOVE ..)), over the theory of the forms before
+
+abbrev pub proved_by : PlainTheory → List PlainMove → PlainLaw → Judged PlainClaim
+proved_by t moves l = tested (is_proved t l moves) code.Proof (Ok (proved l moves))
+
+abbrev pub judged_proof : PlainTheory → Taken → Taken → PlainLaw × List PlainMove → Judged PlainClaim
+judged_proof t taken variables p = judged_law t.signature.definitions t.signature.inputs taken variables p.0 >>= proved_by t p.1
+
+abbrev pub law_form : PlainTheory → Taken → Taken → Plain → Judged PlainClaim
+law_form t taken variables tree = shaped (law_shape tree) >>= judged_proof t taken variables
+
+-- ---- either of them
+
+abbrev pub is_claim : Plain → Bool
+is_claim tree = begins (codes "axiom") tree || begins (codes "law") tree
+
+abbrev pub assumed_form : PlainTheory → Taken → Taken → Plain → Judged PlainClaim
+assumed_form t taken variables tree = axiom_form t.signature.definitions t.signature.inputs taken variables tree >>= λ l. Ok (assumed l)
+
+abbrev pub claim_form : PlainTheory → Taken → Taken → Plain → Judged PlainClaim
+claim_form t taken variables tree = if begins (codes "axiom") tree then assumed_form t taken variables tree else law_form t taken variables tree

@@ -1,15 +1,13 @@
 -- What the forms before hold, in the program.
-use Rattle.kid_term.specs.TermView.{plain_term}
+use Rattle.kid_kernel.specs.TheoryView.{plain_theory}
 use Rattle.kid_theory.specs.Reading as plain
 use Rattle.kid_theory.specs.declared.reader.Front.{Front}
 
 abbrev pub plain_front : Front → plain.Front
 plain_front f = record {
   title = f.title;
-  definitions = f.definitions;
-  inputs = f.inputs;
+  theory = plain_theory f.theory;
+  claims = f.claims;
   taken = f.taken;
-  condition = plain_term f.condition;
-  axioms = f.axioms;
   variables = f.variables;
 }

@@ -3,16 +3,16 @@ use Rattle.std.specs.Prelude.{ℕ, List, [], ◌∷◌, ◌++◌, Option}
 use Rattle.kid_value.specs.PlainSort.{PlainSort}
 use Rattle.kid_term.specs.PlainTerm.{PlainTerm}
 use Rattle.kid_term.specs.Names.{Names, PlainDef}
-use Rattle.kid_term.specs.PlainLaw.{PlainLaw}
 use Rattle.kid_term.specs.PlainTheory.{PlainTheory}
+use Rattle.kid_theory.specs.Claims.{PlainClaim, proved_among, assumed_among}
 
--- the title, definitions and inputs, the input condition, the laws in their order, each of which is an axiom, the output with its sort, the relation, and how many answers are wanted, where not all are
+-- the title, definitions and inputs, the input condition, the laws and axioms in their order, the output with its sort, the relation, and how many answers are wanted, where not all are
 pub record PlainFile : Type 0 where
   pub title : List ℕ
   pub definitions : List PlainDef
   pub inputs : Names
   pub condition : PlainTerm
-  pub laws : List PlainLaw
+  pub claims : List PlainClaim
   pub output : List ℕ
   pub sort : PlainSort
   pub relation : PlainTerm
@@ -29,7 +29,7 @@ relation_names f = f.inputs ++ output_of f ∷ []
 abbrev pub theory_of : PlainFile → PlainTheory
 theory_of f = record {
   signature = record { definitions = f.definitions; inputs = f.inputs };
-  laws = [];
-  axioms = f.laws;
+  laws = proved_among f.claims;
+  axioms = assumed_among f.claims;
   spec = record { inputs = f.inputs; condition = f.condition; output = f.output; sort = f.sort; relation = f.relation; first = f.first };
 }

@@ -6,13 +6,14 @@ use Rattle.kid_sexp.specs.Reading.{reading}
 use Rattle.kid_value.specs.PlainSort.{PlainSort}
 use Rattle.kid_term.specs.PlainTerm.{PlainTerm}
 use Rattle.kid_term.specs.Names.{Names, PlainDef}
-use Rattle.kid_term.specs.PlainLaw.{PlainLaw}
 use Rattle.kid_term.specs.PlainTheory.{PlainTheory}
 use Rattle.kid_kernel.specs.Differ.{words_of}
 use Rattle.kid_theory.specs.Judged.{Judged}
 use Rattle.kid_theory.specs.PlainFile.{PlainFile, theory_of}
 use Rattle.kid_theory.specs.Taken.{Taken}
-use Rattle.kid_theory.specs.Forms.{begins, title_form, definition_form, input_form, output_form, condition_form, first_form, axiom_form}
+use Rattle.kid_theory.specs.Before.{theory_before, with_claim as with_law}
+use Rattle.kid_theory.specs.Claims.{PlainClaim, law_of}
+use Rattle.kid_theory.specs.Forms.{begins, title_form, definition_form, input_form, output_form, condition_form, first_form, is_claim, claim_form}
 use Rattle.kid_theory.specs.declared.fault.TheoryCode.{TheoryCode}
 use Rattle.kid_theory.specs.declared.fault.TheoryCode.TheVariants as code
 use Rattle.kid_theory.specs.declared.fault.TheoryFault.{TheoryFault}
@@ -32,26 +33,30 @@ numbered k (Err c) = refused k c
 abbrev pub at : {A : Type 0} → ℕ → Judged A → Read A
 at k form = if nat_le k 1024 then numbered k form else refused k code.Limit
 
--- What the forms before hold: the title, the definitions, the inputs, the names that are declared, the condition, the axioms and their variables.
+-- What the forms before hold: the title, the theory so far, its laws and axioms in their order, the names that are declared, and the variables.
 pub record Front : Type 0 where
   pub title : List ℕ
-  pub definitions : List PlainDef
-  pub inputs : Names
+  pub theory : PlainTheory
+  pub claims : List PlainClaim
   pub taken : Taken
-  pub condition : PlainTerm
-  pub axioms : List PlainLaw
   pub variables : Taken
 
-abbrev pub with_axiom : Front → PlainLaw → Front
-with_axiom f a = record f { taken = f.taken ++ a.name ∷ []; axioms = f.axioms ++ a ∷ []; variables = f.variables ++ words_of a.variables }
+abbrev pub with_claim : Front → PlainClaim → Front
+with_claim f c =
+    record f {
+      theory = with_law f.theory c;
+      claims = f.claims ++ c ∷ [];
+      taken = f.taken ++ (law_of c).name ∷ [];
+      variables = f.variables ++ words_of (law_of c).variables;
+    }
 
 abbrev pub file_with : Front → List ℕ × PlainSort → PlainTerm → PlainFile
 file_with f output relation = record {
   title = f.title;
-  definitions = f.definitions;
-  inputs = f.inputs;
-  condition = f.condition;
-  laws = f.axioms;
+  definitions = f.theory.signature.definitions;
+  inputs = f.theory.signature.inputs;
+  condition = f.theory.spec.condition;
+  claims = f.claims;
   output = output.0;
   sort = output.1;
   relation = relation;
@@ -76,19 +81,19 @@ after_relation k f (more u us) = at (suc k) (first_form u) >>= λ n. at_end (suc
 abbrev pub after_output : ℕ → Front → List ℕ × PlainSort → Plains → Read PlainFile
 after_output k f output none = refused (suc k) code.Form
 after_output k f output (more t ts) =
-    at (suc k) (condition_form (codes "ensure") f.definitions (f.inputs ++ output ∷ []) t)
+    at (suc k) (condition_form (codes "ensure") f.theory.signature.definitions (f.theory.signature.inputs ++ output ∷ []) t)
     >>= λ relation. after_relation (suc k) (file_with f output relation) ts
 
 abbrev pub after_condition : ℕ → Front → Plains → Read PlainFile
 after_condition k f none = refused (suc k) code.Form
 after_condition k f (more t ts) =
-    if begins (codes "axiom") t
-    then (at (suc k) (axiom_form f.definitions f.inputs f.taken f.variables t) >>= λ a. after_condition (suc k) (with_axiom f a) ts)
+    if is_claim t
+    then (at (suc k) (claim_form f.theory f.taken f.variables t) >>= λ c. after_condition (suc k) (with_claim f c) ts)
     else (at (suc k) (output_form (f.taken ++ f.variables) t) >>= λ output. after_output (suc k) f output ts)
 
 abbrev pub front_of : List ℕ → List PlainDef → Names → Taken → PlainTerm → Front
 front_of title defs inputs taken condition =
-    record { title = title; definitions = defs; inputs = inputs; taken = taken; condition = condition; axioms = []; variables = [] }
+    record { title = title; theory = theory_before defs inputs condition; claims = []; taken = taken; variables = [] }
 
 -- after the title, and definitions and inputs with these names
 abbrev pub after_inputs : ℕ → List ℕ → List PlainDef → Names → Taken → Plains → Read PlainFile

@@ -11,6 +11,8 @@ use Rattle.kid_codec.specs.Shape.{form, single, couple, quadruple}
 use Rattle.kid_codec.specs.SortSpelling.{spelled_number, spelled_sort}
 use Rattle.kid_codec.specs.TermSpelling.{spelled_term}
 use Rattle.kid_term.specs.PlainLaw.{PlainConclusion, equal, holds, PlainLaw}
+use Rattle.kid_moves.specs.PlainRule.{PlainMove}
+use Rattle.kid_lines.specs.LineReading.{spelled_move}
 
 -- a word
 abbrev pub word_of : Plain → Option (List ℕ)
@@ -76,7 +78,7 @@ definition_of p = word_of p.0 >>= λ f. declared_names p.1 >>= λ ps. with_body 
 abbrev pub definition_shape : Plain → Option PlainDef
 definition_shape t = form (codes "def") t >>= quadruple >>= definition_of
 
--- ---- axioms: a word, variables, conditions and a conclusion
+-- ---- axioms and laws: a word, variables, conditions and a conclusion, and of a law the moves of its proof
 
 abbrev pub given_terms : Plain → Option (List PlainTerm)
 given_terms t = form (codes "given") t >>= theory_terms
@@ -107,3 +109,21 @@ axiom_of p = word_of p.0 >>= λ n. declared_names p.1 >>= λ vs. with_conclusion
 
 abbrev pub axiom_shape : Plain → Option PlainLaw
 axiom_shape t = form (codes "axiom") t >>= quadruple >>= axiom_of
+
+abbrev pub spelled_moves : Plains → Option (List PlainMove)
+spelled_moves none = Some []
+spelled_moves (more t ts) = spelled_move t >>= λ m. option_map (λ ms. m ∷ ms) (spelled_moves ts)
+
+-- (by MOVE ..)
+abbrev pub proof_shape : Plain → Option (List PlainMove)
+proof_shape t = form (codes "by") t >>= spelled_moves
+
+abbrev pub law_with : Plain → Plain × Plain × Plain × Plain → Option (PlainLaw × List PlainMove)
+law_with t p = both (λ l moves. (l, moves)) (axiom_of (t, p.0, p.1, p.2)) (proof_shape p.3)
+
+abbrev pub law_of_parts : Plains → Option (PlainLaw × List PlainMove)
+law_of_parts none = None
+law_of_parts (more t ts) = quadruple ts >>= law_with t
+
+abbrev pub law_shape : Plain → Option (PlainLaw × List PlainMove)
+law_shape t = form (codes "law") t >>= law_of_parts

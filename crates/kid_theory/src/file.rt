@@ -1,28 +1,45 @@
 //! Theory files.
-ghost use Rattle.std.specs.Prelude.{◌≡◌, IfOk};
+ghost use Rattle.std.specs.Prelude.{◌≡◌, IfOk, map};
 ghost use Rattle.kid_kernel.specs.TheoryView.{plain_theory};
+ghost use Rattle.kid_theory.specs.Claims.{proved_among, assumed_among};
+ghost use Rattle.kid_theory.specs.ClaimView.{plain_claim};
 ghost use Rattle.kid_theory.specs.FileView.{plain_file};
 ghost use Rattle.kid_theory.specs.PlainFile.{theory_of};
 
+use crate::claims::{Claim, Claims};
 use kid_kernel::{Axioms, Laws, Spec, Theory};
 use kid_sorting::Signature;
 use kid_sorting::names::copied;
-use kid_term::{Defs, Term};
-use kid_value::{Memory, Names, Sort, Text};
+use kid_term::Term;
+use kid_value::{Memory, Sort, Text};
 use std::alloc::Global;
 
-/// What a theory file holds, in the order of its forms. Each of the laws is an axiom.
+/// What a theory file holds, in the order of its forms.
 #[derive(Drop)]
 pub struct TheoryFile {
     pub title: Text,
-    pub definitions: Defs,
-    pub inputs: Names,
+    pub signature: Signature,
     pub condition: Term,
-    pub laws: Axioms,
+    pub claims: Claims,
     pub output: Text,
     pub sort: Sort,
     pub relation: Term,
     pub first: Option<u32>,
+}
+
+/// What is proved, and what is assumed.
+fn parted(alloc: Global, claims: Vec<Claim>) -> Result<(Laws, Axioms), Memory>
+    ensures { IfOk result (λ p. (p.0 ≡ proved_among (map plain_claim claims.items)) × (p.1 ≡ assumed_among (map plain_claim claims.items))) }
+{
+    let mut laws = Laws::new(alloc);
+    let mut axioms = Axioms::new(alloc);
+    for claim in claims {
+        match claim {
+            Claim::Assumed(law) => axioms.push(law)?,
+            Claim::Proved(law, _moves) => laws.push(law)?,
+        }
+    }
+    Ok((laws, axioms))
 }
 
 /// The theory of a file.
@@ -35,27 +52,27 @@ pub fn theory_of(alloc: Global, file: TheoryFile) -> Result<Theory, Memory>
 {
     let TheoryFile {
         title: _,
-        definitions,
-        inputs,
+        signature,
         condition,
-        laws,
+        claims,
         output,
         sort,
         relation,
         first,
     } = file;
     let spec = Spec {
-        inputs: copied(alloc, &inputs)?,
+        inputs: copied(alloc, signature.names())?,
         condition,
         output,
         sort,
         relation,
         first,
     };
+    let (laws, axioms) = parted(alloc, claims.into_vec())?;
     Ok(Theory {
-        signature: Signature::from_parts(definitions, inputs),
-        laws: Laws::new(alloc),
-        axioms: laws,
+        signature,
+        laws,
+        axioms,
         spec,
     })
 }

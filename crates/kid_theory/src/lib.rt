@@ -2,12 +2,15 @@
 #![tactic(auto)]
 
 mod ahead;
+mod claims;
+mod copies;
 mod fault;
 mod file;
 mod forms;
 mod law;
 mod law_form;
 mod names;
+mod proof;
 mod reader;
 mod shape;
 

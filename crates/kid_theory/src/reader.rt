@@ -6,27 +6,32 @@ ghost use Rattle.kid_value.specs.SortView.{plain_sort};
 ghost use Rattle.kid_term.specs.CallDepth.{depths_of};
 ghost use Rattle.kid_term.specs.DefView.{plain_def};
 ghost use Rattle.kid_term.specs.TermView.{plain_term};
-ghost use Rattle.kid_kernel.specs.LawView.{plain_axiom};
 ghost use Rattle.kid_kernel.specs.TheoryView.{plain_theory};
 ghost use Rattle.kid_theory.specs.Answers.{Judges, Reads, fault_at, placed, located};
-ghost use Rattle.kid_theory.specs.Forms.{condition_form as condition_form_of, output_form as output_form_of, axiom_form as axiom_form_of, definition_form as definition_form_of};
+ghost use Rattle.kid_theory.specs.Forms.{condition_form as condition_form_of, output_form as output_form_of, claim_form as claim_form_of, definition_form as definition_form_of};
+ghost use Rattle.kid_theory.specs.Before.{theory_before, with_claim as with_law};
+ghost use Rattle.kid_theory.specs.ClaimView.{plain_claim};
 ghost use Rattle.kid_theory.specs.FileView.{plain_file};
 ghost use Rattle.kid_theory.specs.Formed.{IsSpelledBy};
 ghost use Rattle.kid_theory.specs.FrontView.{plain_front};
 ghost use Rattle.kid_theory.specs.IsRead.{IsRead};
-ghost use Rattle.kid_theory.specs.Reading.{file_with, with_axiom, front_of, at_end, after_relation, after_output, after_condition, after_inputs, after_definitions, file_from, file_reading, theory_reading};
+ghost use Rattle.kid_theory.specs.Known.{AreDeclared, IsKnown};
+ghost use Rattle.kid_theory.specs.Reading.{file_with, with_claim, front_of, at_end, after_relation, after_output, after_condition, after_inputs, after_definitions, file_from, file_reading, theory_reading};
 
+use crate::claims::{Claim, Claims};
+use crate::copies::with_copy;
 use crate::fault::{TheoryCode, TheoryFault};
 use crate::file::{TheoryFile, theory_of};
 use crate::forms::{
     Known, begins, condition_form, definition_form, first_form, input_form, output_form, title_form,
 };
-use crate::law_form::axiom_form;
+use crate::law_form::{claim_form, is_claim};
 use crate::names::{add_words, declare, joined as joined_texts};
-use kid_kernel::{Axiom, Axioms, Theory};
+use kid_kernel::{Axioms, Laws, Spec, Theory};
 use kid_sexp::{ReadFault, Tree, read};
-use kid_sorting::names::with_name;
-use kid_term::{CallDepths, Def, Defs, Term};
+use kid_sorting::Signature;
+use kid_sorting::names::{copied as copied_names, with_name};
+use kid_term::{CallDepths, Def, Defs, Literal, Term};
 use kid_value::{Memory, Names, Sort, Text, Texts};
 use std::alloc::Global;
 
@@ -74,15 +79,13 @@ fn at<T: Drop>(number: u32, found: Result<T, TheoryCode>) -> Result<T, TheoryFau
     }
 }
 
-/// What the forms before hold, once the condition is among them.
+/// What the forms before hold, once the condition is among them. The theory has copies of the laws and axioms, since proofs see it.
 #[derive(Drop)]
 struct Front {
     title: Text,
-    definitions: Defs,
-    inputs: Names,
+    theory: Theory,
+    claims: Claims,
     taken: Texts,
-    condition: Term,
-    axioms: Axioms,
     variables: Texts,
 }
 
@@ -91,18 +94,21 @@ fn file_with(front: Front, output: Text, sort: Sort, relation: Term) -> TheoryFi
 {
     let Front {
         title,
-        definitions,
-        inputs,
-        condition,
-        axioms,
+        theory,
+        claims,
         ..
     } = front;
+    let Theory {
+        signature,
+        spec,
+        ..
+    } = theory;
+    let Spec { condition, .. } = spec;
     TheoryFile {
         title,
-        definitions,
-        inputs,
+        signature,
         condition,
-        laws: axioms,
+        claims,
         output,
         sort,
         relation,
@@ -147,10 +153,11 @@ fn relation_form(
     sort: &Sort,
     tree: &Tree,
 ) -> Result<Term, TheoryCode>
-    ensures { Judges plain_term result (let f = plain_front front.now in condition_form_of (codes "ensure") f.definitions (f.inputs ++ (output.now, plain_sort sort.now) ∷ []) (plain tree.now)) }
+    ensures { Judges plain_term result (let f = plain_front front.now in condition_form_of (codes "ensure") f.theory.signature.definitions (f.theory.signature.inputs ++ (output.now, plain_sort sort.now) ∷ []) (plain tree.now)) }
 {
-    let names = with_name(alloc, &front.inputs, output, sort)?;
-    condition_form(alloc, b"ensure", front.definitions.items(), &names, tree)
+    let signature = &front.theory.signature;
+    let names = with_name(alloc, signature.names(), output, sort)?;
+    condition_form(alloc, b"ensure", signature.definitions(), &names, tree)
 }
 
 fn after_output(
@@ -173,7 +180,7 @@ fn after_output(
     after_relation(number, file, rest)
 }
 
-/// The output's name and sort, which no name before has and no variable of an axiom.
+/// The output's name and sort, which no name before has and no variable of a law.
 fn output_after(alloc: Global, front: &Front, tree: &Tree) -> Result<(Text, Sort), TheoryCode>
     ensures { Judges plain_name result (let f = plain_front front.now in output_form_of (f.taken ++ f.variables) (plain tree.now)) }
 {
@@ -181,43 +188,53 @@ fn output_after(alloc: Global, front: &Front, tree: &Tree) -> Result<(Text, Sort
     output_form(alloc, &taken, tree)
 }
 
-/// What the axiom of a form is.
-fn axiom_after(alloc: Global, front: &Front, tree: &Tree) -> Result<Axiom, TheoryCode>
-    ensures { Judges plain_axiom result (let f = plain_front front.now in axiom_form_of f.definitions f.inputs f.taken f.variables (plain tree.now)) }
+/// What the law or axiom of a form is.
+fn claim_after(alloc: Global, front: &Front, tree: &Tree) -> Result<Claim, TheoryCode>
+    requires { IsKnown (plain_theory front.now.theory) front.now.taken front.now.variables }
+    ensures { Judges plain_claim result (let f = plain_front front.now in claim_form_of f.theory f.taken f.variables (plain tree.now)) }
 {
-    axiom_form(
-        alloc,
-        front.definitions.items(),
-        &front.inputs,
-        &front.taken,
-        &front.variables,
-        tree,
-    )
+    claim_form(alloc, &front.theory, &front.taken, &front.variables, tree)
 }
 
-/// The forms before, with one more axiom.
-fn with_axiom(alloc: Global, front: Front, law: Axiom) -> Result<Front, Memory>
-    ensures { IfOk result (λ f. plain_front f ≡ with_axiom (plain_front front) (plain_axiom law)) }
+/// The theory with a copy of the law or axiom.
+fn with_law(alloc: Global, theory: Theory, claim: &Claim) -> Result<Theory, Memory>
+    ensures { IfOk result (λ t. plain_theory t ≡ with_law (plain_theory theory) (plain_claim claim.now)) }
+{
+    let Theory {
+        signature,
+        laws,
+        axioms,
+        spec,
+    } = theory;
+    let (laws, axioms) = with_copy(alloc, laws, axioms, claim)?;
+    Ok(Theory {
+        signature,
+        laws,
+        axioms,
+        spec,
+    })
+}
+
+/// The forms before, with one more law or axiom.
+fn with_claim(alloc: Global, front: Front, claim: Claim) -> Result<Front, Memory>
+    ensures { IfOk result (λ f. plain_front f ≡ with_claim (plain_front front) (plain_claim claim)) }
 {
     let Front {
         title,
-        definitions,
-        inputs,
+        theory,
+        mut claims,
         mut taken,
-        condition,
-        mut axioms,
         mut variables,
     } = front;
-    declare(alloc, &mut taken, &law.name)?;
-    add_words(alloc, &mut variables, &law.variables)?;
-    axioms.push(law)?;
+    declare(alloc, &mut taken, claim.name())?;
+    add_words(alloc, &mut variables, claim.variables())?;
+    let theory = with_law(alloc, theory, &claim)?;
+    claims.push(claim)?;
     Ok(Front {
         title,
-        definitions,
-        inputs,
+        theory,
+        claims,
         taken,
-        condition,
-        axioms,
         variables,
     })
 }
@@ -228,16 +245,17 @@ fn after_condition(
     front: Front,
     trees: &[Tree],
 ) -> Result<TheoryFile, TheoryFault>
-    requires { before + length trees.now + 1 < 2 ^ 32 }
+    requires count { before + length trees.now + 1 < 2 ^ 32 }
+    requires known { IsKnown (plain_theory front.theory) front.taken front.variables }
     ensures { Reads plain_file result (after_condition before (plain_front front) (plains trees.now)) }
 {
     let number = before + 1;
     let Some((tree, rest)) = trees.split_first() else {
         return Err(fault_at(number, TheoryCode::Form));
     };
-    if begins(b"axiom", tree) {
-        let law = at(number, axiom_after(alloc, &front, tree))?;
-        let front = with_axiom(alloc, front, law)?;
+    if is_claim(tree) {
+        let claim = at(number, claim_after(alloc, &front, tree))?;
+        let front = with_claim(alloc, front, claim)?;
         after_condition(alloc, number, front, rest)
     } else {
         let (output, sort) = at(number, output_after(alloc, &front, tree))?;
@@ -245,23 +263,39 @@ fn after_condition(
     }
 }
 
-fn front_of(
+/// The theory before any law. Its output, which has no name, and its relation are stand-ins that no proof of a law sees.
+fn theory_before(
     alloc: Global,
-    title: Text,
     definitions: Defs,
     inputs: Names,
-    taken: Texts,
     condition: Term,
-) -> Front
-    ensures { plain_front result ≡ front_of title definitions inputs taken (plain_term condition) }
+) -> Result<Theory, Memory>
+    ensures { IfOk result (λ t. plain_theory t ≡ theory_before definitions inputs (plain_term condition)) }
+{
+    let spec = Spec {
+        inputs: copied_names(alloc, &inputs)?,
+        condition,
+        output: Text::new(alloc),
+        sort: Sort::Bool,
+        relation: Term::Lit(Literal::Bool(true)),
+        first: None,
+    };
+    Ok(Theory {
+        signature: Signature::from_parts(definitions, inputs),
+        laws: Laws::new(alloc),
+        axioms: Axioms::new(alloc),
+        spec,
+    })
+}
+
+fn front_of(alloc: Global, title: Text, theory: Theory, taken: Texts) -> Front
+    ensures { plain_front result ≡ record { title = title; theory = plain_theory theory; claims = []; taken = taken; variables = [] } }
 {
     Front {
         title,
-        definitions,
-        inputs,
+        theory,
+        claims: Claims::new(alloc),
         taken,
-        condition,
-        axioms: Axioms::new(alloc),
         variables: Texts::new(alloc),
     }
 }
@@ -287,7 +321,8 @@ fn after_inputs(
     taken: Texts,
     trees: &[Tree],
 ) -> Result<TheoryFile, TheoryFault>
-    requires { before + length trees.now + 1 < 2 ^ 32 }
+    requires count { before + length trees.now + 1 < 2 ^ 32 }
+    requires declared { AreDeclared definitions inputs taken }
     ensures { Reads plain_file result (after_inputs before title definitions inputs taken (plains trees.now)) }
 {
     let number = before + 1;
@@ -303,7 +338,8 @@ fn after_inputs(
         after_inputs(alloc, number, title, definitions, inputs, taken, rest)
     } else {
         let condition = at(number, requirement(alloc, &definitions, &inputs, tree))?;
-        let front = front_of(alloc, title, definitions, inputs, taken, condition);
+        let theory = theory_before(alloc, definitions, inputs, condition)?;
+        let front = front_of(alloc, title, theory, taken);
         after_condition(alloc, number, front, rest)
     }
 }
@@ -362,6 +398,7 @@ fn after_definitions(
 ) -> Result<TheoryFile, TheoryFault>
     requires count { before + length trees.now + 1 < 2 ^ 32 }
     requires depths { known.depths ≡ depths_of known.all }
+    requires declared { AreDeclared known.all [] known.taken }
     ensures { Reads plain_file result (after_definitions before known.title known.all known.taken (plains trees.now)) }
 {
     let number = before + 1;
@@ -433,16 +470,18 @@ fn theory_from(alloc: Global, bytes: &[u8]) -> Result<Theory, TheoryFault>
 ///   definitions that stand before it alone
 /// - `(input NAME SORT)`, up to 16 times
 /// - `(require TERM)`, a truth value over the inputs
-/// - `(axiom NAME ((NAME SORT) ..) (given TERM ..) CONCLUSION)`, any number of them, over the inputs and its variables: the conclusion
-///   is `(equal TERM TERM)` of terms with a common sort or `(holds TERM)` of a truth value, the conditions are truth values, and no
-///   binder stands in any of these terms
+/// - `(axiom NAME ((NAME SORT) ..) (given TERM ..) CONCLUSION)` and `(law NAME ((NAME SORT) ..) (given TERM ..) CONCLUSION (by MOVE ..))`,
+///   any number of them, over the inputs and their variables: the conclusion is `(equal TERM TERM)` of terms with a common sort or
+///   `(holds TERM)` of a truth value, the conditions are truth values, and no binder stands in any of these terms. The moves prove
+///   the law: its facts begin with the input condition and the law's conditions, each move applies, and after them it holds that
+///   both sides are equal, or that the term is true. They may use the laws and axioms that stand before the law
 /// - `(output NAME SORT)`
 /// - `(ensure TERM)`, a truth value over the inputs and the output
 /// - `(first NUMBER)`, from 1 to 1,000,000, or none of it where all answers are wanted
 ///
-/// Definitions, inputs, axioms and the output have names that differ from one another and from the variables of the axioms before
-/// them. The variables of an axiom differ from one another, from its name and from all names before it. The parameters of a
-/// definition differ from one another.
+/// Definitions, inputs, laws, axioms and the output have names that differ from one another and from the variables of the laws and
+/// axioms before them. The variables of a law or axiom differ from one another, from its name and from all names before it. The
+/// parameters of a definition differ from one another.
 ///
 /// # Errors
 ///
@@ -455,9 +494,8 @@ fn theory_from(alloc: Global, bytes: &[u8]) -> Result<Theory, TheoryFault>
 /// - `Name`: a word that is to be declared is no name, or stands where it must differ.
 /// - `Cycle`: a definition calls itself or one of a later form.
 /// - `Sort`: a sort that is declared is not allowed, or a term breaks a rule above or has no sort.
+/// - `Proof`: a fact that a law's proof begins with is refused, a move does not apply, or the conclusion does not hold after them.
 /// - `Memory`, with form 0: memory is wanting. It may come in place of any other answer.
-///
-/// `Proof` does not come: laws are refused as `Form`.
 #[tactic(auto, using(crate::proofs::Laws::read_result))]
 pub fn read_theory(alloc: Global, bytes: &[u8]) -> Result<Theory, TheoryFault>
     ensures reading { Reads plain_theory result (theory_reading bytes.now) }

@@ -8,11 +8,13 @@ ghost use Rattle.kid_term.specs.TermView.{plain_term};
 ghost use Rattle.kid_codec.specs.Reading.{Finds};
 ghost use Rattle.kid_codec.specs.SortSpelling.{spelled_number};
 ghost use Rattle.kid_kernel.specs.LawView.{plain_conclusion, plain_axiom};
-ghost use Rattle.kid_theory.specs.Shapes.{word_of, theory_term, theory_terms, declared, declared_pair, declared_list, declared_each, declared_names, lone, lone_word, lone_number, lone_term, declared_form, definition_of, definition_shape, given_terms, equal_sides, equal_parts, holds_shape, conclusion_shape, axiom_of, axiom_shape};
+ghost use Rattle.kid_theory.specs.ClaimView.{plain_proof};
+ghost use Rattle.kid_theory.specs.Shapes.{word_of, theory_term, theory_terms, declared, declared_pair, declared_list, declared_each, declared_names, lone, lone_word, lone_number, lone_term, declared_form, definition_of, definition_shape, given_terms, equal_sides, equal_parts, holds_shape, conclusion_shape, axiom_of, axiom_shape, spelled_moves, proof_shape, law_with, law_of_parts, law_shape};
 
 use kid_codec::shape::{couple, form, quadruple, single};
 use kid_codec::{CodecFault, number_of, spelled_sort, spelled_term};
-use kid_kernel::{Axiom, Conclusion};
+use kid_kernel::{Axiom, Conclusion, Moves};
+use kid_lines::read_move;
 use kid_sexp::Tree;
 use kid_term::{Def, Term, Terms};
 use kid_value::{Names, Sort, Text};
@@ -259,6 +261,64 @@ pub fn axiom_shape(alloc: Global, tree: &Tree) -> Result<Axiom, CodecFault>
         Some((name, variables, given, conclusion)) => axiom_of(
             alloc, name, variables, given, conclusion,
         ),
+        None => Err(CodecFault::Form),
+    }
+}
+
+fn spelled_moves(alloc: Global, trees: &[Tree]) -> Result<Moves, CodecFault>
+    ensures { Finds (λ ms. ms) result (spelled_moves (plains trees.now)) }
+{
+    let mut moves = Moves::new(alloc);
+    for tree in trees {
+        moves.push(read_move(alloc, tree)?)?;
+    }
+    Ok(moves)
+}
+
+fn proof_shape(alloc: Global, tree: &Tree) -> Result<Moves, CodecFault>
+    ensures { Finds (λ ms. ms) result (proof_shape (plain tree.now)) }
+{
+    match form(b"by", tree) {
+        Some(parts) => spelled_moves(alloc, parts),
+        None => Err(CodecFault::Form),
+    }
+}
+
+fn law_with(
+    alloc: Global,
+    name: &Tree,
+    variables: &Tree,
+    given: &Tree,
+    conclusion: &Tree,
+    proof: &Tree,
+) -> Result<(Axiom, Moves), CodecFault>
+    ensures { Finds plain_proof result (law_with (plain name.now) (plain variables.now, plain given.now, plain conclusion.now, plain proof.now)) }
+{
+    let law = axiom_of(alloc, name, variables, given, conclusion)?;
+    let moves = proof_shape(alloc, proof)?;
+    Ok((law, moves))
+}
+
+fn law_of_parts(alloc: Global, parts: &[Tree]) -> Result<(Axiom, Moves), CodecFault>
+    ensures { Finds plain_proof result (law_of_parts (plains parts.now)) }
+{
+    let Some((name, rest)) = parts.split_first() else {
+        return Err(CodecFault::Form);
+    };
+    match quadruple(rest) {
+        Some((variables, given, conclusion, proof)) => law_with(
+            alloc, name, variables, given, conclusion, proof,
+        ),
+        None => Err(CodecFault::Form),
+    }
+}
+
+/// What the law says that a tree has the shape of, and the moves of its proof.
+pub fn law_shape(alloc: Global, tree: &Tree) -> Result<(Axiom, Moves), CodecFault>
+    ensures { Finds plain_proof result (law_shape (plain tree.now)) }
+{
+    match form(b"law", tree) {
+        Some(parts) => law_of_parts(alloc, parts),
         None => Err(CodecFault::Form),
     }
 }

@@ -17,7 +17,7 @@ fn takes_axioms(rt: HostRuntime) {
     takes(&rt, rt.alloc(), 3, 3, &TAKEN_AXIOMS);
 }
 
-const SHAPES_OF_AXIOMS: [(&str, u32, TheoryCode); 15] = [
+const SHAPES_OF_AXIOMS: [(&str, u32, TheoryCode); 14] = [
     ("(axiom a () (holds true))", 4, TheoryCode::Form),
     ("(axiom a () (given))", 4, TheoryCode::Form),
     ("(axiom a () (given) (holds))", 4, TheoryCode::Form),
@@ -37,7 +37,6 @@ const SHAPES_OF_AXIOMS: [(&str, u32, TheoryCode); 15] = [
         4,
         TheoryCode::Form,
     ),
-    ("(law a () (given) (holds true) (by))", 4, TheoryCode::Form),
     (
         "(axiom a () (given (win 0 1 5)) (holds true))",
         4,

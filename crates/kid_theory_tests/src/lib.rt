@@ -10,6 +10,8 @@ mod first;
 #[cfg(test)]
 mod forms;
 #[cfg(test)]
+mod laws;
+#[cfg(test)]
 mod limits;
 #[cfg(test)]
 mod over;

@@ -1,34 +1,30 @@
--- What the form of an axiom tells that was not refused: it is the tree of the axiom, which has a spelling and is sorted.
+-- What has the shape of the parts of a law, which is sorted, is the trees of these parts, and has a spelling.
 use Rattle.std.proofs.Common.{◌≡◌, ℕ, true, List, [], ◌∷◌, ◌++◌, Option, Some, None, Ok, Err, refl, sym, ap, ◌∙◌, subst}
 use Rattle.std.specs.Prelude.{◌&&◌, option_map, codes}
 use Rattle.std.specs.List.{list_all}
-use Rattle.kid_sexp.specs.Plain.{Plain, Plains, atom, list, none, more, one}
+use Rattle.kid_sexp.specs.Plain.{Plain, Plains, none, more, one}
 use Rattle.kid_value.proofs.SortLemmas.{and_parts, and_both}
 use Rattle.kid_term.specs.Names.{Names, PlainDef}
 use Rattle.kid_term.specs.PlainTerm.{PlainTerm, term_row}
 use Rattle.kid_term.specs.Sorted.{Sorted}
 use Rattle.kid_term.specs.Sorting.{sort_of}
 use Rattle.kid_sorting.specs.Declaring.{are_allowed, is_truth}
-use Rattle.kid_codec.specs.DeclaredSpelling.{names_spelling, is_spelled_name}
+use Rattle.kid_codec.specs.DeclaredSpelling.{is_spelled_name}
 use Rattle.kid_codec.specs.Name.{is_name}
 use Rattle.kid_codec.specs.Reading.{◌>>=◌}
-use Rattle.kid_codec.specs.Shape.{form, couple, quadruple}
+use Rattle.kid_codec.specs.Shape.{form, couple}
 use Rattle.kid_codec.specs.SortSpelling.{headed}
 use Rattle.kid_codec.specs.TermSpelling.{term_spellings, is_spelled_term, are_spelled_terms}
 use Rattle.kid_codec.proofs.Found.{same_some, mapped, both_some, bind_some}
-use Rattle.kid_codec.proofs.ShapeTold.{form_told, couple_told, quadruple_told}
+use Rattle.kid_codec.proofs.ShapeTold.{form_told, couple_told}
 use Rattle.kid_codec.proofs.TermTold.{TermsTold}
 use Rattle.kid_term.specs.PlainLaw.{PlainConclusion, equal, holds, PlainLaw}
 use Rattle.kid_kernel.specs.SortedLaw.{is_unbound, is_condition, have_common, is_sorted_conclusion, is_sorted_law}
-use Rattle.kid_theory.specs.Formed.{is_spelled_conclusion, is_spelled_axiom}
-use Rattle.kid_theory.specs.Forms.{is_named_law, judged_law, axiom_form}
-use Rattle.kid_theory.specs.Judged.{Judged, tested}
-use Rattle.kid_theory.specs.Shapes.{word_of, theory_term, theory_terms, declared_names, lone_term, given_terms, equal_sides, equal_parts, holds_shape, equal_or, conclusion_shape, with_conclusion, axiom_of, axiom_shape}
-use Rattle.kid_theory.specs.Spelling.{conclusion_spelling, axiom_spelling}
-use Rattle.kid_theory.specs.Taken.{Taken, is_free, are_free}
-use Rattle.kid_theory.specs.declared.fault.TheoryCode.TheVariants as code
-use Rattle.kid_theory.proofs.Passed.{found, found_same, tested_ok, shaped_ok}
-use Rattle.kid_theory.proofs.ShapeTold.{free_name, word_tree, names_told, sorted_told, truth_told, lone_truth_told}
+use Rattle.kid_theory.specs.Formed.{is_spelled_conclusion, is_spelled_law}
+use Rattle.kid_theory.specs.Shapes.{word_of, theory_term, theory_terms, declared_names, lone_term, given_terms, equal_sides, equal_parts, holds_shape, equal_or, conclusion_shape, with_conclusion, axiom_of}
+use Rattle.kid_theory.specs.Spelling.{conclusion_spelling, law_parts}
+use Rattle.kid_theory.specs.Taken.{Taken, are_free}
+use Rattle.kid_theory.proofs.ShapeTold.{word_tree, names_told, sorted_told, truth_told, lone_truth_told}
 
 condition_truth : (defs : List PlainDef) (names : Names) (c : PlainTerm) → is_condition defs names c ≡ true → is_truth (sort_of defs names c) ≡ true
 condition_truth defs names c p = (and_parts (is_unbound c) (is_truth (sort_of defs names c)) p).1
@@ -107,18 +103,11 @@ conclusion_by defs names t c None p e sorted = holds_told defs names t c e sorte
 conclusion_told : (defs : List PlainDef) (names : Names) (t : Plain) (c : PlainConclusion) → conclusion_shape t ≡ Some c → is_sorted_conclusion defs names c ≡ true → ConclusionTold t c
 conclusion_told defs names t c e sorted = conclusion_by defs names t c (form (codes "equal") t) refl e sorted
 
--- ---- the axiom
+-- ---- what a law says
 
--- what stands behind the word of an axiom
-abbrev parts_spelling : PlainLaw → Plains
-parts_spelling a =
-    more (atom a.name)
-    (more (list (names_spelling a.variables))
-    (more (headed (codes "given") (term_spellings (term_row a.conditions))) (one (conclusion_spelling a.conclusion))))
-
-axiom_of_told : (defs : List PlainDef) (inputs : Names) (taken : Taken) (p : Plain × Plain × Plain × Plain) (a : PlainLaw) → axiom_of p ≡ Some a → is_name a.name ≡ true → are_free taken a.variables ≡ true
-    → is_sorted_law defs inputs a ≡ true → (more p.0 (more p.1 (more p.2 (one p.3))) ≡ parts_spelling a) × (is_spelled_axiom a ≡ true)
-axiom_of_told defs inputs taken p a e name free sorted =
+pub law_parts_told : (defs : List PlainDef) (inputs : Names) (taken : Taken) (p : Plain × Plain × Plain × Plain) (a : PlainLaw) → axiom_of p ≡ Some a → is_name a.name ≡ true → are_free taken a.variables ≡ true
+    → is_sorted_law defs inputs a ≡ true → ((rest : Plains) → more p.0 (more p.1 (more p.2 (more p.3 rest))) ≡ law_parts a rest) × (is_spelled_law a ≡ true)
+law_parts_told defs inputs taken p a e name free sorted =
     let named : List ℕ → Option PlainLaw = λ n. declared_names p.1 >>= λ vs. with_conclusion n vs (given_terms p.2) (conclusion_shape p.3) in
     let w = bind_some (word_of p.0) named a e in
     let n : List ℕ = w.0 in
@@ -142,27 +131,6 @@ axiom_of_told defs inputs taken p a e name free sorted =
     let called : is_name n ≡ true = ap (λ (b : PlainLaw). is_name b.name) is ∙ name in
     let one_spelled = and_both (is_name n) (list_all is_spelled_name vs) called variables.1 in
     let two_spelled = and_both (is_name n && list_all is_spelled_name vs) (are_spelled_terms (term_row cs)) one_spelled given.1 in (
-      (λ z. more (i z) (more (j z) (more (k z) (one (l z))))) ∙ ap parts_spelling is,
-      ap is_spelled_axiom (sym is) ∙ and_both (is_name n && list_all is_spelled_name vs && are_spelled_terms (term_row cs)) (is_spelled_conclusion c) two_spelled conclusion.spelled,
+      (λ rest. (λ z. more (i z) (more (j z) (more (k z) (more (l z) rest)))) ∙ ap (λ (b : PlainLaw). law_parts b rest) is),
+      ap is_spelled_law (sym is) ∙ and_both (is_name n && list_all is_spelled_name vs && are_spelled_terms (term_row cs)) (is_spelled_conclusion c) two_spelled conclusion.spelled,
     )
-
-axiom_told : (defs : List PlainDef) (inputs : Names) (taken : Taken) (t : Plain) (a : PlainLaw) → axiom_shape t ≡ Some a → is_name a.name ≡ true → are_free taken a.variables ≡ true
-    → is_sorted_law defs inputs a ≡ true → (t ≡ axiom_spelling a) × (is_spelled_axiom a ≡ true)
-axiom_told defs inputs taken t a e name free sorted =
-    let c = bind_some (form (codes "axiom") t >>= quadruple) axiom_of a e in
-    let q = bind_some (form (codes "axiom") t) quadruple c.0 c.1 in
-    let k = axiom_of_told defs inputs taken c.0 a c.2 name free sorted in
-    (form_told (codes "axiom") t q.0 q.1 ∙ ap (headed (codes "axiom")) (quadruple_told q.0 c.0 q.2 ∙ k.0), k.1)
-
-pub axiom_form_told : (defs : List PlainDef) (inputs : Names) (taken variables : Taken) (t : Plain) (l : PlainLaw) → axiom_form defs inputs taken variables t ≡ Ok l
-    → (is_sorted_law defs inputs l ≡ true) × (is_spelled_axiom l ≡ true) × (t ≡ axiom_spelling l)
-axiom_form_told defs inputs taken variables t l p =
-    let s = shaped_ok (axiom_shape t) (judged_law defs inputs taken variables) l p in
-    let g : PlainLaw = s.0 in
-    let sorted : Judged PlainLaw = tested (is_sorted_law defs inputs g) code.Sort (Ok g) in
-    let a = tested_ok (is_named_law taken variables g) code.Name sorted l s.2 in
-    let b = tested_ok (is_sorted_law defs inputs g) code.Sort (found g) l a.1 in
-    let same = found_same g l b.1 in
-    let names = and_parts (is_free (taken ++ variables) g.name) (are_free (taken ++ g.name ∷ []) g.variables) a.0 in
-    let k = axiom_told defs inputs (taken ++ g.name ∷ []) t g s.1 (free_name (taken ++ variables) g.name names.0) names.1 b.0 in
-    (ap (is_sorted_law defs inputs) (sym same) ∙ b.0, ap is_spelled_axiom (sym same) ∙ k.1, k.0 ∙ ap axiom_spelling same)
