@@ -14,7 +14,7 @@ from explain_text import Tree, line_and_column
 SPELLED = re.compile(r"[a-z][a-z0-9-]{0,31}")
 NUMBER = re.compile(r"[+-]?\d+")
 # at which place of a list a name is declared
-DECLARES = {"theory": 1, "def": 1, "input": 1, "output": 1, "axiom": 1, "let": 1, "for": 1,
+DECLARES = {"theory": 1, "def": 1, "input": 1, "output": 1, "axiom": 1, "law": 1, "let": 1, "for": 1,
             "all": 1, "some": 1, "setof": 1, "image": 1, "sumof": 1}
 OTHER_LANGUAGES = {
     "gt": "(lt b a)", "ge": "(le b a)", "ne": "(not (eq a b))", ">": "(lt b a)", ">=": "(le b a)", "<": "(lt a b)",
@@ -28,7 +28,8 @@ MEANINGS = {
     "form": "it may not stand here, or a part of it has not the shape that it is to have",
     "name": "a word that is declared is no name, or is taken",
     "cycle": "a definition calls itself, or one that stands later",
-    "sort": "a sort is not allowed, or a term has no sort or not the one that is wanted there"}
+    "sort": "a sort is not allowed, or a term has no sort or not the one that is wanted there",
+    "proof": "a move of the law does not apply, or what the law says does not hold after them"}
 # what may be missing in a list
 EXTRA = ["true", "0", "(set)", "bool", "fresh-name", "(map)", "(seq)", "()"]
 WORDS = {1: "one", 2: "two", 3: "three", 4: "four"}

@@ -13,7 +13,7 @@ from explain_text import Tree, named
 
 DUE = {"theory": ["(theory fresh-name)", "(require true)", "(output fresh-name bool)", "(ensure true)"],
        "program": ["(program 2)", "(require true)", "(output fresh-name bool)", "(main)", "(search ())"]}
-HEADS = {"theory": ["theory", "def", "input", "require", "axiom", "output", "ensure", "first"],
+HEADS = {"theory": ["theory", "def", "input", "require", "axiom", "law", "output", "ensure", "first"],
          "program": ["program", "def", "input", "require", "output", "first", "main", "search"]}
 SHAPES = {"theory": "(theory NAME)", "program": "(program 1) or (program 2)",
           "def": "(def NAME ((NAME SORT) ..) SORT TERM)",
@@ -21,8 +21,9 @@ SHAPES = {"theory": "(theory NAME)", "program": "(program 1) or (program 2)",
           "ensure": "(ensure TERM)",
           "first": "(first K), with K from 1 to 1000000", "main": "(main STATEMENT ..)",
           "search": "(search ((NAME SORT) ..) STATEMENT ..)",
-          "axiom": "(axiom NAME ((NAME SORT) ..) (given TERM ..) (holds TERM)) or (.. (equal TERM TERM))"}
-ORDER = {"theory": "theory, def.., input.., require, axiom.., output, ensure, first",
+          "axiom": "(axiom NAME ((NAME SORT) ..) (given TERM ..) (holds TERM)) or (.. (equal TERM TERM))",
+          "law": "(law NAME ((NAME SORT) ..) (given TERM ..) (holds TERM) (by MOVE ..)) or (.. (equal TERM TERM) (by MOVE ..))"}
+ORDER = {"theory": "theory, def.., input.., require, axiom.. and law.. as they come, output, ensure, first",
          "program": "program, def.., input.., require, output, first, main, search"}
 
 
@@ -98,7 +99,7 @@ def moved(blame: Blame, form: Tree) -> Cause | None:
 def in_excess(blame: Blame, form: Tree) -> Cause | None:
     """A form without which the fault moves on."""
     same = [other for other in blame.forest if other.head() == form.head() and other.start < form.start
-            and form.head() not in ("def", "input", "axiom")]
+            and form.head() not in ("def", "input", "axiom", "law")]
     found = blame.judge.ask(blame.kind, blame.text[:form.start] + blame.text[form.end:])
     is_last = blame.answer[0] == len(blame.forest)
     if not same or not (found == ACCEPTED or found[0] > len(blame.forest) - 1 or not is_last
@@ -112,7 +113,7 @@ def in_excess(blame: Blame, form: Tree) -> Cause | None:
 def shape_cause(blame: Blame, form: Tree) -> Cause | None:
     """A form with another number of parts than its shape has."""
     least = {"theory": 2, "program": 2, "def": 5, "input": 3, "require": 2, "output": 3, "ensure": 2, "first": 2,
-             "axiom": 5, "search": 2, "main": 1}
+             "axiom": 5, "law": 6, "search": 2, "main": 1}
     head, count = form.head(), len(form.items)
     exact = head not in ("main", "search")
     if count >= least[head] and (not exact or count == least[head]):

@@ -12,7 +12,7 @@ TOP = pathlib.Path(__file__).resolve().parent.parent
 SCRIPT = "(match range)\n"
 SECONDS = 60
 # the order in which the codes of one form are judged
-RANKS = {"large": 0, "read": 1, "limit": 2, "version": 3, "form": 3, "name": 4, "cycle": 5, "sort": 6}
+RANKS = {"large": 0, "read": 1, "limit": 2, "version": 3, "form": 3, "name": 4, "cycle": 5, "sort": 6, "proof": 7}
 PROGRAM = re.compile(r"(?:\s|;[^\n]*\n)*\(\s*program\b")
 ANSWER = re.compile(r"\((theory|program|inputs|unbuilt) (\d+)(?: (\w+))?\)")
 

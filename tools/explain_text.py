@@ -12,7 +12,7 @@ MOST_OPEN = 250
 BAD_BYTE = re.compile(r"[^\t\n\r -~]")
 TOKEN = re.compile(r";[^\n]*|[()]|[^\s();]+")
 # what begins a form, and stands nowhere else
-FORM_HEADS = {"theory", "def", "input", "require", "axiom", "output", "ensure", "program", "main", "search", "match"}
+FORM_HEADS = {"theory", "def", "input", "require", "axiom", "law", "output", "ensure", "program", "main", "search", "match"}
 MARKS = {"\xef\xbb\xbf": "a byte order mark (UTF-8)", "\xff\xfe": "a byte order mark (UTF-16)",
          "\xfe\xff": "a byte order mark (UTF-16)"}
 

@@ -58,7 +58,7 @@ call Groups('bytes.th', [[2, ';', 'kidsComment'], [2, 'x', 'kidsComment']])
 call assert_equal('kidsBadByte', synIDattr(synID(2, 3, 1), 'name'), 'a byte that no file may have')
 call Groups('hand.prog', [[3, '1', 'kidsNumber'], [4, 'main', 'kidsForm'], [4, 'for', 'kidsRepeat'],
   \ [4, 'x', 'kidsBound'], [4, 'let', 'kidsStatement'], [4, 'y', 'kidsBound'], [4, 'emit', 'kidsStatement'],
-  \ [4, 'filter', 'kidsReserved'], [4, 'e12', 'kidsReserved']])
+  \ [4, 'filter', 'kidsReserved'], [4, 'e12', 'kidsRule']])
 call Groups('tags.prog', [[2, 'set', 'kidsSort'], [2, 'enum', 'kidsSort'], [2, 'blue', 'kidsName'], [3, 'first', 'kidsDeclared'],
   \ [3, 'enum enum', 'kidsSort'], [3, 'enum)', 'kidsName'], [4, 'first', 'kidsForm'], [5, "'red", 'kidsTag'], [5, "'Red", 'kidsBadWord']])
 call assert_equal(';\ %s', escape(&commentstring, ' '))

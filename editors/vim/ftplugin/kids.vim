@@ -9,7 +9,7 @@ setlocal comments=:; commentstring=;\ %s
 setlocal iskeyword=@,48-57,45
 setlocal lisp autoindent expandtab shiftwidth=2
 " what stands in these is indented by two, and in all else it stands below the first member
-setlocal lispwords=theory,def,input,output,require,ensure,axiom,program,main,search
+setlocal lispwords=theory,def,input,output,require,ensure,axiom,law,program,main,search
 setlocal lispwords+=if,for,let,emit,call,all,some,setof,image,sumof
 
 " :make lists what tools/explain says of the file; :make OTHER names the theory or program beside inputs or a script

@@ -19,7 +19,7 @@ syntax match kidsNumber "\<\%(0\|-\=[1-9]\d*\)\>"
 syntax match kidsTag "'[a-z][a-z0-9-]\{,31}\>"
 
 " forms of theories, programs, scripts and derivations
-syntax keyword kidsForm def theory input output axiom nextgroup=kidsDeclared skipwhite skipempty
+syntax keyword kidsForm def theory input output axiom law nextgroup=kidsDeclared skipwhite skipempty
 syntax keyword kidsForm require given equal holds ensure program main search match by
 syntax match kidsDeclared contained "\<[a-z][a-z0-9-]\{,31}\>"
 
@@ -52,10 +52,13 @@ syntax match kidsSort "(\@1<=enum\>"
 
 syntax keyword kidsBoolean true false
 
+" proofs: moves and lines, and the rules that they name; `at` and `holds` stand above
+syntax keyword kidsMove left right join again have copy back
+syntax keyword kidsRule unfold fold compute use fails uncast
+syntax match kidsRule "\<[bem]\d\+\>"
+
 " reserved, and without a use in the files that are built today
-syntax keyword kidsReserved law filter cut simplify maintain refine left right join again have copy back
-syntax keyword kidsReserved normal closure want unfold fold compute use fails uncast
-syntax match kidsReserved "\<[bem]\d\+\>"
+syntax keyword kidsReserved filter cut simplify maintain refine normal closure want
 
 syntax region kidsList matchgroup=kidsBracket start="(" end=")" fold
   \ contains=ALLBUT,kidsBadBracket,kidsDeclared,kidsBound
@@ -84,6 +87,8 @@ highlight default link kidsOperator Operator
 highlight default link kidsBinder Operator
 highlight default link kidsSort Type
 highlight default link kidsBoolean Boolean
+highlight default link kidsMove Statement
+highlight default link kidsRule Special
 highlight default link kidsReserved PreProc
 highlight default link kidsBracket Delimiter
 highlight default link kidsComment Comment
