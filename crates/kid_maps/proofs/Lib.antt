@@ -1,0 +1,4 @@
+pub mod ExampleProofs
+pub mod MapMeaning
+pub mod MapsLaws
+pub mod MapsLifting

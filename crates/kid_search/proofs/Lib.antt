@@ -1,0 +1,14 @@
+pub mod BoolLemmas
+pub mod BranchLemmas
+pub mod CutLemmas
+pub mod Found
+pub mod JustOne
+pub mod PlanTheorem
+pub mod Planned
+pub mod RangeLaws
+pub mod RangeLifting
+pub mod ReadLemmas
+pub mod SameSpace
+pub mod SearchExampleProofs
+pub mod SearchTheorem
+pub mod SetMeaning

@@ -1,0 +1,5 @@
+use Rattle.kid_search.proofs.PlanTheorem.{plans_find_first}
+use Rattle.kid_search.proofs.law.plans_find_first.Goals as goal
+
+pub returns : goal.returns
+returns c = plans_find_first

@@ -1,0 +1,5 @@
+use Rattle.kid_search.proofs.SearchExampleProofs.{search_examples}
+use Rattle.kid_search.proofs.law.searches_by_example.Goals as goal
+
+pub returns : goal.returns
+returns c = search_examples

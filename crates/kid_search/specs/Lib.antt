@@ -1,0 +1,14 @@
+pub mod CutBy
+pub mod Examples
+pub mod Operators
+pub mod Owed
+pub mod Pieces
+pub mod PlainPlan
+pub mod PlanLaws
+pub mod PlanSearch
+pub mod Range
+pub mod RangePieces
+pub mod SearchLaws
+pub mod Searching
+pub mod Space
+pub mod SpaceLaws

@@ -1,0 +1,4 @@
+pub mod ExampleProofs
+pub mod SeqsLaws
+pub mod SeqsLifting
+pub mod SequenceMeaning

@@ -1,0 +1,13 @@
+//! What holds of the pieces.
+ghost use Rattle.kid_subsets.specs.Examples.{SubsetsExamples};
+ghost use Rattle.kid_subsets.specs.SubsetsPieces.{SubsetsAreLawful};
+
+/// The pieces of the search of subsets make a lawful space, whose start every value of the goal satisfies.
+pub fn subsets_are_lawful()
+    ensures { SubsetsAreLawful }
+{}
+
+/// Small searches, as they are computed from the definitions.
+pub fn searches_by_example()
+    ensures { SubsetsExamples }
+{}
