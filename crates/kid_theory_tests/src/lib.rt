@@ -4,6 +4,12 @@
 #[cfg(test)]
 mod axioms;
 #[cfg(test)]
+mod false_binders;
+#[cfg(test)]
+mod false_laws;
+#[cfg(test)]
+mod false_proofs;
+#[cfg(test)]
 mod faults;
 #[cfg(test)]
 mod first;

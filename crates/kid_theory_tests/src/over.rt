@@ -78,3 +78,21 @@ pub fn refuses(
         assert!(rt; is_refused(alloc, file, form, code), "at {instead}");
     }
 }
+
+/// Each law is refused for its proof, at this form, in place of the forms from one place to before another.
+pub fn refuses_proofs(
+    rt: &impl Abort,
+    alloc: Global,
+    from: usize,
+    to: usize,
+    form: u32,
+    laws: &[&str],
+) {
+    for instead in laws {
+        let file = changed(alloc, from, to, instead);
+        assert!(rt;
+            is_refused(alloc, file, form, TheoryCode::Proof),
+            "at {instead}"
+        );
+    }
+}
