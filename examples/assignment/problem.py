@@ -2,13 +2,14 @@
 
 from itertools import permutations
 
-TABLE = [[9, 2, 7, 8], [6, 4, 3, 7], [5, 8, 1, 8], [7, 6, 9, 4]]
-COST = {(person, task): cost for person, row in enumerate(TABLE, 1) for task, cost in enumerate(row, 1)}
-FOUR = frozenset({1, 2, 3, 4})
+TABLE = {"ann": [9, 2, 7, 8], "bob": [6, 4, 3, 7], "cyd": [5, 8, 1, 8], "dan": [7, 6, 9, 4]}
+TASKS = ["cook", "drive", "paint", "shop"]
+COST = {(person, task): cost for person, row in TABLE.items() for task, cost in zip(TASKS, row)}
+THREE = {("ann", "cook"): 3, ("ann", "drive"): 5, ("bob", "cook"): 4, ("cyd", "drive"): 1, ("cyd", "shop"): 6}
 INPUTS = [
-    (FOUR, FOUR, COST, 15),
-    (frozenset({1, 2, 3}), FOUR, {(1, 1): 3, (1, 2): 5, (2, 1): 4, (3, 2): 1, (3, 4): 6}, 20),
-    (frozenset({1, 2}), frozenset({1, 2}), {(1, 1): 3, (2, 1): 4}, 100),
+    (frozenset(TABLE), frozenset(TASKS), COST, 15),
+    (frozenset({"ann", "bob", "cyd"}), frozenset(TASKS), THREE, 20),
+    (frozenset({"ann", "bob"}), frozenset({"cook", "drive"}), {("ann", "cook"): 3, ("bob", "cook"): 4}, 100),
 ]
 
 

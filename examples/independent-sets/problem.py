@@ -2,11 +2,12 @@
 
 from itertools import combinations
 
+FRIENDS = ["ann", "ben", "cleo", "dora", "emil"]
 INPUTS = [
-    (frozenset({1, 2, 3, 4}), frozenset({(1, 2), (2, 3), (3, 4)})),
-    (frozenset({1, 2, 3, 4, 5}), frozenset({(1, 2), (2, 3), (3, 4), (4, 5), (5, 1)})),
+    (frozenset(FRIENDS[:4]), frozenset(zip(FRIENDS[:4], FRIENDS[1:4]))),
+    (frozenset(FRIENDS), frozenset(zip(FRIENDS, FRIENDS[1:] + FRIENDS[:1]))),
     (frozenset(), frozenset()),
-    (frozenset({1, 2}), frozenset({(1, 1)})),
+    (frozenset({"ann", "ben"}), frozenset({("ann", "ann")})),
 ]
 
 

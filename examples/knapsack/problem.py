@@ -2,9 +2,9 @@
 
 from itertools import combinations
 
-WEIGHT = {1: 5, 2: 4, 3: 6, 4: 3, 5: 7}
-WORTH = {1: 10, 2: 8, 3: 13, 4: 5, 5: 14}
-INPUTS = [(WEIGHT, WORTH, 15, 27), (WEIGHT, WORTH, 15, 32), ({1: 5}, {2: 10}, 15, 5)]
+WEIGHT = {"bottle": 5, "camera": 4, "food": 6, "lamp": 3, "radio": 7}
+WORTH = {"bottle": 10, "camera": 8, "food": 13, "lamp": 5, "radio": 14}
+INPUTS = [(WEIGHT, WORTH, 15, 27), (WEIGHT, WORTH, 15, 32), ({"bottle": 5}, {"camera": 10}, 15, 5)]
 
 
 def is_input(given):

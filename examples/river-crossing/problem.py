@@ -2,10 +2,11 @@
 
 from itertools import product
 
+THREE = frozenset({"wolf", "goat", "cabbage"})
 INPUTS = [
-    (frozenset({1, 2, 3}), frozenset({(1, 2), (2, 3)})),
-    (frozenset({2, 3}), frozenset({(2, 3)})),
-    (frozenset({1, 2, 3}), frozenset({(1, 2), (2, 3), (3, 1)})),
+    (THREE, frozenset({("wolf", "goat"), ("goat", "cabbage")})),
+    (frozenset({"goat", "cabbage"}), frozenset({("goat", "cabbage")})),
+    (THREE, frozenset({("wolf", "goat"), ("goat", "cabbage"), ("cabbage", "wolf")})),
     (frozenset(), frozenset()),
 ]
 
@@ -19,7 +20,7 @@ def is_input(given):
 def candidates(given):
     """All rows of at most nine crossings: no more than ten states are without a meal, and none comes twice."""
     things, _ = given
-    return (list(row) for size in range(10) for row in product([0, *things], repeat=size))
+    return (list(row) for size in range(10) for row in product(["nothing", *things], repeat=size))
 
 
 def after(given, state, taken):
@@ -28,9 +29,9 @@ def after(given, state, taken):
     over, boat_is_over = state
     bank = over if boat_is_over else things - over
     alone = bank - {taken}
-    if taken not in bank | {0} or any({*meal} <= alone for meal in eats):
+    if taken not in bank | {"nothing"} or any({*meal} <= alone for meal in eats):
         return None
-    return over ^ ({taken} - {0}), not boat_is_over
+    return over ^ ({taken} - {"nothing"}), not boat_is_over
 
 
 def is_answer(given, crossings):
@@ -56,5 +57,5 @@ def begun(given, passed):
     """The count of those that begin with the states that were passed."""
     if passed[-1][0] == given[0]:
         return 1
-    following = (after(given, passed[-1], taken) for taken in {0} | given[0])
+    following = (after(given, passed[-1], taken) for taken in {"nothing"} | given[0])
     return 1 + sum(begun(given, [*passed, state]) for state in following if state and state not in passed)

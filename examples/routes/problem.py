@@ -2,13 +2,23 @@
 
 from itertools import permutations
 
-ROADS = {(1, 2): 7, (1, 3): 9, (1, 6): 14, (2, 3): 10, (2, 4): 15, (3, 4): 11, (3, 6): 2, (4, 5): 6, (5, 6): 9}
+ROADS = {
+    ("ayr", "bath"): 7,
+    ("ayr", "cork"): 9,
+    ("ayr", "fowey"): 14,
+    ("bath", "cork"): 10,
+    ("bath", "dover"): 15,
+    ("cork", "dover"): 11,
+    ("cork", "fowey"): 2,
+    ("dover", "ely"): 6,
+    ("ely", "fowey"): 9,
+}
 INPUTS = [
-    (ROADS, 1, 5, 25),
-    (ROADS, 5, 1, 500),
-    ({(1, 2): 7, (3, 4): 5}, 1, 4, 500),
-    ({}, 3, 3, 0),
-    ({(1, 2): 7, (2, 1): 8}, 1, 2, 10),
+    (ROADS, "ayr", "ely", 25),
+    (ROADS, "ely", "ayr", 500),
+    ({("ayr", "bath"): 7, ("cork", "dover"): 5}, "ayr", "dover", 500),
+    ({}, "cork", "cork", 0),
+    ({("ayr", "bath"): 7, ("bath", "ayr"): 8}, "ayr", "bath", 10),
 ]
 
 

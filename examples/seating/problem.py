@@ -3,10 +3,10 @@
 from itertools import permutations
 
 INPUTS = [
-    (frozenset({1, 2, 3, 4}), frozenset()),
-    (frozenset({2, 3, 5, 7, 8}), frozenset({(2, 3), (5, 8)})),
-    (frozenset({1, 2, 3, 4, 5}), frozenset({(1, 2), (1, 3), (1, 4)})),
-    (frozenset({1, 2}), frozenset()),
+    (frozenset({"ann", "ben", "cleo", "dora"}), frozenset()),
+    (frozenset({"ann", "ben", "cleo", "dora", "emil"}), frozenset({("ann", "ben"), ("cleo", "emil")})),
+    (frozenset({"ann", "ben", "cleo", "dora", "emil"}), frozenset({("ann", "ben"), ("ann", "cleo"), ("ann", "dora")})),
+    (frozenset({"ann", "ben"}), frozenset()),
 ]
 
 

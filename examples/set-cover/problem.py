@@ -2,20 +2,20 @@
 
 from itertools import combinations
 
-DISTRICTS = frozenset(range(1, 7))
+DISTRICTS = frozenset({"airport", "castle", "docks", "east", "harbour", "market"})
 REACH = {
-    1: frozenset({1, 2}),
-    2: frozenset({2, 3, 4}),
-    3: frozenset({4, 5}),
-    4: frozenset({1, 6}),
-    5: frozenset({3, 5, 6}),
-    6: frozenset({1, 5, 6}),
+    "bay": frozenset({"airport", "castle"}),
+    "dale": frozenset({"castle", "docks", "east"}),
+    "ford": frozenset({"east", "harbour"}),
+    "gate": frozenset({"airport", "market"}),
+    "hill": frozenset({"docks", "harbour", "market"}),
+    "mill": frozenset({"airport", "harbour", "market"}),
 }
 INPUTS = [
     (DISTRICTS, REACH, 2),
     (DISTRICTS, REACH, 3),
-    (frozenset({1, 2, 3}), {1: frozenset({1}), 2: frozenset({1, 2})}, 2),
-    (frozenset(), {1: frozenset({4})}, 0),
+    (frozenset({"airport", "castle", "docks"}), {"bay": frozenset({"airport"}), "dale": frozenset({"airport", "castle"})}, 2),
+    (frozenset(), {"bay": frozenset({"east"})}, 0),
 ]
 
 

@@ -3,18 +3,23 @@
 from itertools import product
 
 SUITS = {
-    1: frozenset({1, 2}),
-    2: frozenset({1, 2, 3}),
-    3: frozenset({2, 3}),
-    4: frozenset({1, 3}),
-    5: frozenset({2}),
+    "algebra": frozenset({1, 2}),
+    "biology": frozenset({1, 2, 3}),
+    "chemistry": frozenset({2, 3}),
+    "drawing": frozenset({1, 3}),
+    "english": frozenset({2}),
 }
-STUDENTS = frozenset(frozenset(taken) for taken in [(1, 2), (2, 3, 4), (1, 5), (4, 5)])
+STUDENTS = frozenset({
+    frozenset({"algebra", "biology"}),
+    frozenset({"biology", "chemistry", "drawing"}),
+    frozenset({"algebra", "english"}),
+    frozenset({"drawing", "english"}),
+})
 INPUTS = [
     (SUITS, STUDENTS, 2),
     (SUITS, STUDENTS, 1),
-    ({1: frozenset({1, 2}), 2: frozenset()}, frozenset({frozenset({1})}), 1),
-    ({1: frozenset({1, 2})}, frozenset({frozenset({1, 2})}), 1),
+    ({"algebra": frozenset({1, 2}), "biology": frozenset()}, frozenset({frozenset({"algebra"})}), 1),
+    ({"algebra": frozenset({1, 2})}, frozenset({frozenset({"algebra", "biology"})}), 1),
 ]
 
 
