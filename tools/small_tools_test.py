@@ -1,5 +1,5 @@
 #!/usr/bin/env python3
-"""Tries the tools for answers and long searches: to_json, to_csv, first, split and lint.
+"""Tries the tools for answers, long searches and proofs: to_json, to_csv, first, split, lint and first_bad_line.
 
     tools/small_tools_test.py
 
@@ -93,6 +93,37 @@ LINT = [
         "7:51: (at v j 0): behind (in j s) of line 7; TAKEN at 1 of 2 inputs, first at ((set 1 2) (seq 7))",
         "7:121: (least s 1): behind (eq s (set)) of line 7; TAKEN at 1 of 2 inputs, first at ((set) (seq))",
         "5 terms: 1 can not by their sorts, 2 did, 2 did not at 2 inputs"]),
+]
+
+# the moves of the law below, and what is said first of its proof; nothing where it is proved
+GROWS_BY = ["(have m5 (a b a))", "(have m5 (a b b))", "(copy 3 (at (1) e19))", "(have m2 ((mul a a) (mul a b) (mul b b)))"]
+SQUARES = """(theory t)
+(input n (int 0 100))
+(require (le 1 n))
+(law before () (given) (holds true) (by (again 1)))
+(law grows ((a (int 0 10)) (b (int 0 10))) (given (le a b)) (holds (le (mul a a) (mul b b)))
+  (by
+"""
+ENDED = ")\n(law behind ((a (int 0 10))) (given) (holds (le (mul a a) (mul 10 10))) (by (have grows (a 10))))\n(output z bool)\n(ensure z)\n"
+PROOFS: list[tuple[list[str], str | None]] = [
+    (GROWS_BY, None),
+    (GROWS_BY[:3], "5:61: all its 3 moves apply, but what the law grows says does not hold after that"),
+    ([], "5:61: there is no move, but what the law grows says does not hold after that"),
+    (["(have m5 (b a a))", *GROWS_BY[1:]], "7:1: move 1 of the law grows does not apply: (have m5 (b a a))"),
+    ([*GROWS_BY[:2], "(again 9)", *GROWS_BY[3:]],
+     "9:8: move 3 of the law grows: there is no fact 9 here: the facts are numbered from 1 to 4"),
+    ([*GROWS_BY[:3], "(join 1 0)"], "10:9: move 4 of the law grows: there is no fact 0 here: the facts are numbered from 1 to 5"),
+    ([*GROWS_BY[:2], "(copy 9 (at (1) e19))"],
+     "9:7: move 3 of the law grows: there is no fact 9 here: the facts are numbered from 1 to 4"),
+    ([*GROWS_BY[:2], "(copy 3 (at (1) e19) (at (1) e14))", GROWS_BY[3]],
+     "9:22: line 2 of move 3 of the law grows does not apply: (at (1) e14)"),
+    ([*GROWS_BY[:2], "(copy 3 (back () e7) (at () e7) (at () e1) (at () e7))", GROWS_BY[3]],
+     "9:33: line 3 of move 3 of the law grows does not apply: (at () e1)"),
+    ([*GROWS_BY[:3], "(copy 5 (at () (use 6)))"],
+     "10:21: line 1 of move 4 of the law grows: there is no fact 6 here: the facts are numbered from 1 to 5"),
+    (["(left 2)"], "7:1: move 1 of the law grows does not apply: (left 2)"),
+    ([*GROWS_BY[:2], *["(again 1)"] * 60, "(have m2 (a b n))", *["(again 1)"] * 40, *GROWS_BY[2:]],
+     "69:1: move 63 of the law grows does not apply: (have m2 (a b n))"),
 ]
 
 # programs that are cut at each of these depths: an example, the number of the input
@@ -221,10 +252,30 @@ def wrong_lists(folder: Path) -> Iterator[str]:
         yield f"lint of a broken file: {broken}"
 
 
+def wrong_proofs(folder: Path) -> Iterator[str]:
+    """What `first_bad_line` says otherwise of the moves of a proof, one in each line."""
+    file = folder / "theory"
+    for moves, said in PROOFS:
+        file.write_text(SQUARES + "\n".join(moves) + ")" + ENDED)
+        done = ran("first_bad_line", str(file))
+        found = done.stdout.splitlines()[:1]
+        if (done.returncode, found) != (1 if said else 0, [f"{file}:{said}" if said else f"{file}: kids takes it"]):
+            yield f"first_bad_line of {moves}: {done}"
+    file.write_text(SQUARES + "\n".join([*GROWS_BY[:2], "(copy 3 (at (1) e30))"]) + ")" + ENDED)
+    if "stands a number: " not in ran("first_bad_line", str(file)).stdout:
+        yield "first_bad_line does not say what stands at a path"
+    file.write_text("(theory t) (require z)")
+    refused = ran("first_bad_line", str(file))
+    if (refused.returncode, refused.stdout) != (2, "") or "(theory 2 sort)" not in refused.stderr:
+        yield f"first_bad_line of a theory without a sort: {refused}"
+    if ran("first_bad_line").returncode != 2 or ran("first_bad_line", str(folder / "absent")).returncode != 2:
+        yield "first_bad_line takes words that fit no theory"
+
+
 def main() -> int:
     """Runs all tests."""
     wrong = list(wrong_texts())
-    for test in (wrong_options, wrong_firsts, wrong_cuts, wrong_joins, wrong_lists):
+    for test in (wrong_options, wrong_firsts, wrong_cuts, wrong_joins, wrong_lists, wrong_proofs):
         with tempfile.TemporaryDirectory(prefix="kids-small-tools-") as folder:
             wrong += test(Path(folder))
     print("".join(line + "\n" for line in wrong), end="")
