@@ -12,8 +12,11 @@ from explain_judge import Answer, Judge
 from explain_text import Tree
 
 REACHED = "(holds true)"
+# parts of a pair, by their kinds
+PARTS = ("0", "true", "(set)", "(seq)", "(map)", "'tag")
 # of a term that this may stand beside in an `if`, what it is
-KINDS = {"0": "a number", "true": "a truth value", "(set)": "a set", "(seq)": "a sequence", "(map)": "a map"}
+KINDS = {"0": "a number", "true": "a truth value", "(set)": "a set", "(seq)": "a sequence", "(map)": "a map", "'tag": "a tag",
+         **{f"(pair {first} {second})": "a pair" for first in PARTS for second in PARTS}}
 # where in a move, and in a line's rule, the numbers of facts stand
 FACTS = {"left": [1], "right": [1], "join": [1, 2], "again": [1], "copy": [1]}
 
@@ -73,6 +76,9 @@ class Proof:
 
     def bad(self) -> Bad:
         """What is refused first."""
+        if not self.takes([]):
+            return Bad(self.law.items[2].start, f"the input condition binds a name that is a variable of the law {self.name}",
+                       ["give the variable, or the name behind the binder, another name"])
         move = first_refused(len(self.moves), self.takes_moves)
         if move is None:
             return self.bad_conclusion()

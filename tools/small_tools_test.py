@@ -264,6 +264,10 @@ def wrong_proofs(folder: Path) -> Iterator[str]:
     file.write_text(SQUARES + "\n".join([*GROWS_BY[:2], "(copy 3 (at (1) e30))"]) + ")" + ENDED)
     if "stands a number: " not in ran("first_bad_line", str(file)).stdout:
         yield "first_bad_line does not say what stands at a path"
+    file.write_text("(theory t) (require (all v (range 1 3) (le 1 v)))\n(law a ((v (int 0 9))) (given) (holds true) (by))\n(output z bool) (ensure z)")
+    bound = ran("first_bad_line", str(file))
+    if not bound.stdout.startswith(f"{file}:2:8: the input condition binds a name that is a variable of the law a\n"):
+        yield f"first_bad_line of a condition that binds a variable: {bound}"
     file.write_text("(theory t) (require z)")
     refused = ran("first_bad_line", str(file))
     if (refused.returncode, refused.stdout) != (2, "") or "(theory 2 sort)" not in refused.stderr:

@@ -1,6 +1,6 @@
 """The places of a sequence whose item stands at another place too."""
 
-INPUTS = [((2, 4, 1, 4, 2),), ((1, 2, 3),), ((),)]
+INPUTS = [([2, 4, 1, 4, 2],), ([1, 2, 3],), ([],)]
 
 
 def is_input(given):

@@ -1,6 +1,6 @@
 """The places of a sequence after which a greater item follows."""
 
-INPUTS = [((3, 1, 4, 1, 5, 9, 2, 6),), ((7,),), ((),)]
+INPUTS = [([3, 1, 4, 1, 5, 9, 2, 6],), ([7],), ([],)]
 
 
 def is_input(given):
