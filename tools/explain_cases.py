@@ -51,6 +51,15 @@ QUEENS = """(program 1)
       (if (is-safe placed row)
         (call (cast (seq (int 1 8) 8) (snoc placed row)))))))
 """
+PROVED = """(theory square)
+(input n (int 0 100))
+(require (le 1 n))
+(law squares-grow ((a (int 0 10)) (b (int 0 10))) (given (le a b))
+  (holds (le (mul a a) (mul b b)))
+  (by (have m5 (a b a)) (have m5 (a b b)) (copy 3 (at (1) e19)) (have m2 ((mul a a) (mul a b) (mul b b)))))
+(output z (int 1 10))
+(ensure (eq (mul z z) n))
+"""
 PAIRED = "(program 2)\n(input a (int 1 9))\n(input m (map (int 1 9) (enum blue red)))\n(require true)\n(output z bool)\n(main (emit true))\n(search ())\n"
 
 
@@ -127,6 +136,10 @@ CASES = [
     Case("key twice", "twice.in", "(3 (map (1 'blue) (2 'red) (@1 'red)))\n", PAIRED),
     Case("tag misspelled", "tag.in", "(3 (map (1 'blue) (2 @red)))\n", PAIRED),
     Case("tag misspelled", "tag.in", "(3 (map (1 'blue) (2 @'green)))\n", PAIRED),
+    Case("law without a proof", "move.th", with_change(PROVED, "(have m5 (a b b))", "@(have m5 (b a b))")),
+    Case("law without a proof", "line.th", with_change(PROVED, "(at (1) e19)", "(at (1) e19) @(at (2) e19)")),
+    Case("law without a proof", "fact.th", with_change(PROVED, "(copy 3 ", "(copy @9 ")),
+    Case("law without a proof", "says.th", with_change(PROVED, "(holds (le (mul a a) (mul b b)))", "@(holds (lt (mul a a) (mul b b)))")),
     Case("script not built", "cut.sc", "; search\n@(match cut)\n", SQUARE),
     Case("script not built", "two.sc", "(match range)\n@(simplify)\n", SQUARE),
     Case("theory without a program", "low.th", SQUARE.replace("input n", "input @low").replace("le 1 n", "le 1 low").replace(") n))", ") low))")),

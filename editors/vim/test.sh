@@ -15,6 +15,14 @@ cat >colours.th <<'END'
   (int 1 10) 4))
 (ensure (eq (mul z z) n)))
 END
+cat >proved.th <<'END'
+(theory proved)
+(require true)
+(law some-law ((v (seq (int 0 9) 3))) (given (eq (at v 1 0) 2)) (holds (le 0 (at v 1 0)))
+  (by
+    (have m1 (v))
+    (copy 2 (at () e13) (back (0) (use 2)) (at ( 0 ) unfold))))
+END
 printf '(match range)\n' >range.sc
 printf '; by hand\n\n(program 1)\n(main (for x s (let y x) (emit y) (call filter e12)))\n' >hand.prog
 printf '(match range (low high) 1 10 (by))\n' >square.der
@@ -50,6 +58,10 @@ call Groups('colours.th', [[1, 'brackets', 'kidsComment'], [1, '(', 'kidsComment
   \ [5, '+2', 'kidsBadNumber'], [5, 'a-word', 'kidsName'], [5, 'word-with', 'kidsName'], [5, 'in)', 'kidsOperator'],
   \ [6, 'Bad', 'kidsBadWord'], [6, 'seq', 'kidsSort'], [8, 'n))', 'kidsName'], [8, ')))', 'kidsBracket']])
 call assert_equal('kidsBadBracket', synIDattr(synID(8, 26, 1), 'name'), 'a bracket that closes none')
+call Groups('proved.th', [[3, 'law', 'kidsForm'], [3, 'some-law', 'kidsDeclared'], [3, 'given', 'kidsForm'],
+  \ [3, 'at v', 'kidsOperator'], [3, 'holds', 'kidsForm'], [4, 'by', 'kidsForm'], [5, 'have', 'kidsMove'],
+  \ [5, 'm1', 'kidsRule'], [6, 'copy', 'kidsMove'], [6, 'at () e', 'kidsMove'], [6, 'e13', 'kidsRule'],
+  \ [6, 'back', 'kidsMove'], [6, 'use', 'kidsRule'], [6, 'at ( 0', 'kidsMove'], [6, 'unfold', 'kidsRule']])
 call Groups('range.sc', [[1, 'match', 'kidsForm'], [1, 'range', 'kidsOperator']])
 call Groups('square.der', [[1, 'low', 'kidsName'], [1, 'by', 'kidsForm']])
 call Groups('form.kids', [[1, 'theory', 'kidsForm']])
@@ -77,7 +89,7 @@ call assert_true(len(errors) > 2, 'a list of errors')
 call assert_equal([2, 1], empty(errors) ? [] : [errors[0].lnum, errors[0].col], 'the bracket that is not closed')
 
 " to indent what is indented changes nothing, and a word has its dashes
-for file in ['words.prog', 'halves.th']
+for file in ['words.prog', 'proved.th', 'halves.th']
   execute 'edit!' file
   let before = getline(1, '$')
   execute '%left'

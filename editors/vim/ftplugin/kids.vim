@@ -10,7 +10,7 @@ setlocal iskeyword=@,48-57,45
 setlocal lisp autoindent expandtab shiftwidth=2
 " what stands in these is indented by two, and in all else it stands below the first member
 setlocal lispwords=theory,def,input,output,require,ensure,axiom,law,program,main,search
-setlocal lispwords+=if,for,let,emit,call,all,some,setof,image,sumof
+setlocal lispwords+=if,for,let,emit,call,all,some,setof,image,sumof,by,have,copy
 
 " :make lists what tools/explain says of the file; :make OTHER names the theory or program beside inputs or a script
 let s:explain = fnamemodify(resolve(expand('<sfile>:p')), ':h:h:h:h') . '/tools/explain'

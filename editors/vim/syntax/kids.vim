@@ -33,11 +33,11 @@ syntax match kidsBound contained "\<[a-z][a-z0-9-]\{,31}\>"
 syntax keyword kidsConditional if
 syntax keyword kidsOperator not and or implies eq le lt add sub neg mul div mod min max
 syntax keyword kidsOperator fst snd range in subset union with inter diff without card sum least
-syntax keyword kidsOperator len at snoc rest items total prefix
+syntax keyword kidsOperator len snoc rest items total prefix
 syntax keyword kidsOperator dom ran get put drop fill submap fits narrow cast
 syntax keyword kidsOperator wenc wdec wor wand wnot wcard win wleast renc rdec rget rput rdrop
 syntax keyword kidsBinder all some setof image sumof nextgroup=kidsBound skipwhite skipempty
-syntax match kidsOperator "\<\%(pair\|set\|seq\|map\)\>"
+syntax match kidsOperator "\<\%(pair\|set\|seq\|map\|at\)\>"
 
 " a name and a sort in brackets are a parameter: from there on first members lead down to `bool` or `int`
 syntax match kidsParameter "(\@1<=[a-z][a-z0-9-]\{,31}\>\ze\_s\+\%((\_s*\%(pair\|set\|seq\|map\)\_s\+\)*\%(bool\>\|(\_s*\%(int\|enum\)\>\)"
@@ -52,8 +52,9 @@ syntax match kidsSort "(\@1<=enum\>"
 
 syntax keyword kidsBoolean true false
 
-" proofs: moves and lines, and the rules that they name; `at` and `holds` stand above
+" the proof of a law: moves, lines, where `at` is followed by a path, and rules
 syntax keyword kidsMove left right join again have copy back
+syntax match kidsMove "(\@1<=at\>\ze\_s*(\_s*\%(\d\|)\)"
 syntax keyword kidsRule unfold fold compute use fails uncast
 syntax match kidsRule "\<[bem]\d\+\>"
 
