@@ -1,2 +1,3 @@
 pub mod FactLemmas
 pub mod NameLemmas
+pub mod SpellingLemmas

@@ -2,7 +2,7 @@
 use crate::rows::{Kind, hold};
 
 /// Each rule, and terms for which there is no instance or a name would be bound.
-const RULES: [&str; 87] = [
+const RULES: [&str; 94] = [
     "(s a) () (all x s (lt x a)) (at () (b1 y)) (all y s (lt y a))",
     // setof
     "(s a) () (setof x s (lt x a)) (at () (b1 y)) (setof y s (lt y a))",
@@ -37,6 +37,7 @@ const RULES: [&str; 87] = [
     "(p) () (and p true) (back (1) b2) no-match",
     "(a) () (some x (set) (eq x a)) (at () b3) false",
     "(a b) () (some x (set b) (eq x a)) (at () b3) no-match",
+    "(p) () (and p false) (back (1) b3) no-match",
     "(a b) () (all x (set a) (lt x b)) (at () b4) (lt a b)",
     "(a b c) () (all x (set a c) (lt x b)) (at () b4) no-match",
     // no member
@@ -45,8 +46,12 @@ const RULES: [&str; 87] = [
     "(a b) () (all x (set (add a 1)) (le (mul x x) b)) (at () b4) (le (mul (add a 1) (add a 1)) b)",
     // below another binder
     "(a s) () (all x (set a) (some y s (lt x y))) (at () b4) (some y s (lt a y))",
+    "(a b) () (lt a b) (back () b4) no-match",
     "(a b) () (some x (set a) (lt x b)) (at () b5) (lt a b)",
     "(a b) () (all x (set a) (lt x b)) (at () b5) no-match",
+    // no member
+    "(a) () (some x (set) (eq x a)) (at () b5) no-match",
+    "(a b) () (lt a b) (back () b5) no-match",
     "(s t a) () (all x (union s t) (lt x a)) (at () b6) (and (all x s (lt x a)) (all x t (lt x a)))",
     "(s t a) () (and (all x s (lt x a)) (all x t (lt x a))) (back () b6) (all x (union s t) (lt x a))",
     "(s t a) () (all x (inter s t) (lt x a)) (at () b6) no-match",
@@ -79,6 +84,7 @@ const RULES: [&str; 87] = [
     "(s p) () (all x s p) (at () b11) no-match",
     // false
     "(s) () (all x s false) (at () b11) no-match",
+    "(p) () (and p true) (back (1) b11) no-match",
     "(s t a) ((subset t s)) (all x s (lt x a)) (at () (b12 t)) (and (all x t (lt x a)) (all x s (lt x a)))",
     "(s t a) ((subset t s)) (and (all x t (lt x a)) (all x s (lt x a))) (back () b12) (all x s (lt x a))",
     "(s t a) ((subset s t)) (all x s (lt x a)) (at () (b12 t)) condition-1",
@@ -100,8 +106,10 @@ const RULES: [&str; 87] = [
     "(s a) () (all x s (lt x a)) (at () b14) no-match",
     // captured
     "(s t b) () (all x (setof y s (some x t (lt y x))) (lt x b)) (at () b14) capture",
+    "(s a b) () (all x s (implies (lt x a) (lt x b))) (back () b14) no-match",
     "() () (add 1 (sumof x (set) 4)) (at (1) b15) (add 1 0)",
     "(s) () (sumof x s 4) (at () b15) no-match",
+    "(a) () (le 0 a) (back (0) b15) no-match",
     "(s a) ((not (in a s))) (sumof x (with a s) (mul x 2)) (at () b16) (add (sumof x s (mul x 2)) (mul a 2))",
     "(s a) ((in a s)) (sumof x (with a s) (mul x 2)) (at () b16) condition-1",
     // other shape

@@ -75,7 +75,7 @@ fn rewrites_truths(rt: HostRuntime) {
 }
 
 /// From `add` to `min`.
-const NUMBERS: [&str; 53] = [
+const NUMBERS: [&str; 54] = [
     "(a b c) () (le (add a b) c) (at (0) e14) (le (add b a) c)",
     "(a b) () (le (add b a) 1) (back (0) e14) (le (add a b) 1)",
     "(a b) () (le (mul a b) 1) (at (0) e14) no-match",
@@ -121,6 +121,7 @@ const NUMBERS: [&str; 53] = [
     "(a b) () (eq a b) (at () e25) (and (le a b) (le b a))",
     "(a b) () (and (le a b) (le b a)) (back () e25) (eq a b)",
     "(p q) () (eq p q) (at () e25) ill-sorted",
+    "(a b) () (le a b) (at () e25) no-match",
     "(a b) () (and (le a b) (le a b)) (back () e25) no-match",
     "(a b) () (le (max a b) 1) (at (0) e26) (le (if (le a b) b a) 1)",
     "(a b) () (le (if (le a b) b a) 1) (back (0) e26) (le (max a b) 1)",

@@ -4,9 +4,9 @@ ghost use Rattle.kid_kernel.specs.IsTheory.{IsTheory};
 ghost use Rattle.kid_kernel.specs.Key.{key};
 ghost use Rattle.kid_kernel.specs.TheoryView.{plain_theory};
 
-use crate::answers::{are_terms, has_ends};
+use crate::answers::are_terms;
 use crate::over::{facts_over, parts, terms_of, theory_of};
-use crate::rows::{rewrites_by, steps};
+use crate::rows::{has_ends, rewrites_by, steps};
 use crate::spread::read_row;
 use crate::theories::SQUARE;
 use kid_kernel::{Facts, Line, Rule, Theory};

@@ -5,8 +5,7 @@
 //! of facts that no row makes); `lists` (laws and axioms).
 #![tactic(auto)]
 
-#[cfg(test)]
-mod answers;
+pub mod answers;
 #[cfg(test)]
 mod binders;
 #[cfg(test)]

@@ -63,7 +63,7 @@ fn concludes(rt: HostRuntime) {
 }
 
 /// Conclusions of laws of the theory.
-const LAWS: [&str; 7] = [
+const LAWS: [&str; 9] = [
     // proved
     "(k) () (have fives (k)) (le k 5)",
     // law
@@ -72,6 +72,10 @@ const LAWS: [&str; 7] = [
     "(k j) ((le j k)) (have rises (j k)) (le (twice j) (twice k))",
     // law refused
     "(k j) ((le k j)) (have rises (j k)) condition-1",
+    // law of three conditions
+    "(h i j) ((lt h 5) (le i j) (le h i)) (have chained (h i j)) (le h j)",
+    // law third refused
+    "(h i j) ((le h i) (le i j)) (have chained (h i j)) condition-3",
     // law its own names
     "(h i) ((le i h)) (have rises (i h)) (le (twice i) (twice h))",
     // law of another sort
@@ -86,7 +90,7 @@ fn concludes_by_laws_of_the_theory(rt: HostRuntime) {
 }
 
 /// Each move, and its refusals in their order.
-const MOVES: [&str; 56] = [
+const MOVES: [&str; 61] = [
     // left accepted
     "(p q) ((and p q)) (left 1) p",
     // left refused
@@ -103,6 +107,8 @@ const MOVES: [&str; 56] = [
     "(p q) ((implies p q)) (right 1) no-match",
     // right missing
     "(p q) ((and p q)) (right 3) no-match",
+    // right 0
+    "(p q) ((and p q)) (right 0) no-match",
     // join accepted
     "(p q) (p q) (join 2 1) (and q p)",
     // join one fact
@@ -137,6 +143,11 @@ const MOVES: [&str; 56] = [
     "(p) (p) (have holds (p)) unknown-law",
     // have a rule of facts
     "(p) (p) (have (use 1) ()) unknown-law",
+    // have each other rule
+    "(k) () (have unfold (k)) unknown-law",
+    "(p) (p) (have compute (p)) unknown-law",
+    "(p) (p) (have fails (p)) unknown-law",
+    "(p) (p) (have uncast (p)) unknown-law",
     // have a fold
     "(k) () (have (fold twice) (k)) unknown-law",
     // have an equation of the theory

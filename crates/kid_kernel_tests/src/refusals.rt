@@ -49,7 +49,7 @@ fn refuses_lines(rt: HostRuntime) {
 }
 
 /// The first of two or more.
-const FIRST: [&str; 22] = [
+const FIRST: [&str; 27] = [
     // no path before unknown law
     "(p q) () (and p q) (at (2) tripled) no-path",
     // no path before no match
@@ -58,6 +58,8 @@ const FIRST: [&str; 22] = [
     "(p q) () (and p q) (at (0 0) (use 1)) no-path",
     // no path before condition
     "(p q) () (and p q) (at (2) holds) no-path",
+    // no path before capture
+    "(s a) () (all x s (lt x a)) (at (2) (b1 a)) no-path",
     // unknown law before no match
     "(p q) () (or p q) (back () (fold thrice p q)) unknown-law",
     // unknown law before the count
@@ -74,12 +76,18 @@ const FIRST: [&str; 22] = [
     "(p) () p (back () holds) no-match",
     // no match before ill sorted
     "(p a) () (and p p) (at () (e3 (le p a))) no-match",
+    // no match before limit
+    "(p q) () (not (not {p})) (back () (e3 q)) no-match",
     // capture before condition
     "(s t) () (all x s (some y t (lt x y))) (at () (b18 y)) capture",
     // capture before ill sorted
     "(s a) () (all x s (lt x a)) (at () (b1 a)) capture",
     // capture before a name that goes out of scope
     "(s) () (all x s (all y (range 1 x) (le y x))) (at () b10) capture",
+    // capture before limit
+    "(s) () (all x s (some y (set$) (lt x y))) (at () (b18 y)) capture",
+    // where nothing is captured
+    "(s a) ((in a s)) (all x s (some y (set$) (lt x y))) (at () (b18 a)) limit",
     // condition 1 before condition 2
     "(v w a d) () (le (at w a d) 0) (at (0) (e45 v)) condition-1",
     // condition 2 after condition 1
@@ -90,6 +98,8 @@ const FIRST: [&str; 22] = [
     "(wide broad) () (le (add wide broad) (add broad wide)) (at (0) swapped) condition-1",
     // condition before limit
     "(s t a) () (all x s {(lt x a)}) (at () (b12 t)) condition-1",
+    // limit before ill sorted
+    "(p) () (not (not {p})) (back () e16) limit",
     // limit before a variable of another sort
     "(wide) () (not {(le wide 5)}) (at (0#) doubly) limit",
     // ill sorted after all else

@@ -11,26 +11,18 @@ ghost use Rattle.kid_kernel.specs.IsTheory.{IsTheory};
 ghost use Rattle.kid_kernel.specs.Key.{key};
 ghost use Rattle.kid_kernel.specs.TheoryView.{plain_theory};
 
-use crate::answers::{are_terms, ends_with, has_ends, is_refusal, is_term, is_word};
+use crate::answers::{are_terms, is_after, is_answer, is_refusal, is_term};
 use crate::over::{facts_over, parts, theory_of};
 use crate::spread::read_row;
 use crate::theories::ROWS;
 use kid_codec::term_of;
-use kid_kernel::{Facts, Line, Move, Theory, Why, rewrite};
+use kid_kernel::{Facts, Line, Move, Theory, rewrite};
 use kid_lines::{line_of, move_of};
 use kid_sexp::Tree;
 use kid_sorting::sort_of;
-use kid_term::Term;
+use kid_term::{Term, same};
 use std::alloc::Global;
 use std::process::Abort;
-
-/// Whether the new term is wanted, or the refusal, with which the old term was given back.
-fn is_answer(alloc: Global, found: &Result<Term, (Term, Why)>, old: &Tree, want: &Tree) -> bool {
-    match found {
-        Ok(new) => is_term(alloc, new, want),
-        Err(fault) => is_refusal(fault.1, want) && is_term(alloc, &fault.0, old),
-    }
-}
 
 fn rewrites(
     alloc: Global,
@@ -111,20 +103,39 @@ fn line_holds(alloc: Global, theory: &Theory, row: &[Tree]) -> bool
     }
 }
 
-/// Whether the facts at the start are there, and a new one where it is wanted.
-fn is_after(
-    alloc: Global,
-    facts: &Facts,
-    found: Result<(), Why>,
-    start: &Tree,
-    want: &Tree,
-) -> bool {
-    match found {
-        Ok(()) => match facts.items().split_last() {
-            Some((_, old)) => are_terms(alloc, old, start) && ends_with(alloc, facts, want),
-            None => false,
-        },
-        Err(why) => is_refusal(why, want) && are_terms(alloc, facts.items(), start),
+/// Whether the tree is this word.
+fn is_word(tree: &Tree, word: &[u8]) -> bool {
+    match tree {
+        Tree::Atom(text) => text.is(word),
+        Tree::List(_) => false,
+    }
+}
+
+fn are_same(found: Option<&Term>, term: Option<&Term>) -> bool {
+    match (found, term) {
+        (Some(found), Some(term)) => same(found, term),
+        (None, None) => true,
+        _ => false,
+    }
+}
+
+/// Whether the fact of the last number is the last one, and there is none of number 0, nor of the one after the last.
+pub fn has_ends(facts: &Facts) -> bool {
+    match facts.count().checked_add(1) {
+        Some(next) => {
+            facts.fact(0).is_none()
+                && are_same(facts.fact(facts.count()), facts.items().last())
+                && facts.fact(next).is_none()
+        }
+        None => false,
+    }
+}
+
+/// Whether the last fact is this one.
+fn ends_with(alloc: Global, facts: &Facts, want: &Tree) -> bool {
+    match facts.fact(facts.count()) {
+        Some(fact) => is_term(alloc, fact, want),
+        None => false,
     }
 }
 
@@ -140,7 +151,7 @@ fn moves(
 {
     let mut facts = facts;
     let found = facts.step(alloc, theory, step);
-    has_ends(&facts) && is_after(alloc, &facts, found, start, want)
+    has_ends(&facts) && is_after(alloc, facts.items(), found, start, want)
 }
 
 fn moves_by(

@@ -143,13 +143,17 @@ fn takes_casts_away(rt: HostRuntime) {
 }
 
 /// Equations of the theory.
-const LAWS: [&str; 19] = [
+const LAWS: [&str; 21] = [
     // equation
     "(k) () (le (twice k) 4) (at (0) doubled) (le (mul k 2) 4)",
     // equation back
     "(k) () (le (mul k 2) 4) (back (0) doubled) (le (twice k) 4)",
     // equation refused
     "(k) () (le k 4) (at (0) doubled) no-match",
+    // proved
+    "(k) () (le (twice k) 4) (at (0) opened) (le (add k k) 4)",
+    // proved back
+    "(k) () (le (add k k) 4) (back (0) opened) (le (twice k) 4)",
     // condition
     "(k j) ((le k j)) (le (twice k) (twice j)) (at () ordered) true",
     // condition refused

@@ -22,7 +22,9 @@ pub const ROWS: &str = "
 (axiom grows ((i (int 0 5))) (given) (holds (le i (twice i))))
 (axiom rises ((h (int 0 5)) (i (int 0 5))) (given (le h i)) (holds (le (twice h) (twice i))))
 (axiom small ((i (int 0 5))) (given) (holds (le (min i 5) 5)))
-(axiom fives ((i (int 0 5))) (given) (holds (le i 5)))
+(axiom chained ((h (int 0 5)) (i (int 0 5)) (j (int 0 5))) (given (le h i) (le i j) (lt h 5)) (holds (le h j)))
+(law fives ((i (int 0 5))) (given) (holds (le i 5)) (by))
+(law opened ((i (int 0 5))) (given) (equal (twice i) (add i i)) (by (have m1 ((twice i))) (copy 2 (at (1) unfold))))
 (output z bool)
 (ensure z)
 ";

@@ -90,7 +90,7 @@ fn computes_values(rt: HostRuntime) {
 }
 
 /// What holds, and what fails.
-const SETTLED: [&str; 36] = [
+const SETTLED: [&str; 43] = [
     // fact
     "(p q) (p) (and q p) (at (1) holds) (and q true)",
     // closed
@@ -119,16 +119,27 @@ const SETTLED: [&str; 36] = [
     "(p) () (and p p) (at (0) holds) condition-1",
     // second of implies
     "(p) () (implies p p) (at (1) holds) (implies p true)",
+    // first of implies
+    "(p) () (implies p p) (at (0) holds) condition-1",
     // second of or
     "(p) () (or p (not p)) (at (1) holds) condition-1",
     // second of if
     "(p q) () (if p p q) (at (1) holds) (if p true q)",
+    // negation in the second of if
+    "(p q) () (if p (not p) q) (at (1) holds) condition-1",
     // third of if
     "(p q) () (if p q (not p)) (at (2) holds) (if p q true)",
+    // test in the third of if
+    "(p q) () (if p q p) (at (2) holds) condition-1",
     // test of if
     "(p q) () (if p p q) (at (0) holds) condition-1",
     // member below a binder
     "(s) () (all x s (in x s)) (at (1) holds) (all x s true)",
+    // member below each other binder
+    "(s) () (some x s (in x s)) (at (1) holds) (some x s true)",
+    "(s) () (setof x s (in x s)) (at (1) holds) (setof x s true)",
+    "(s) () (image x s (if (in x s) 1 0)) (at (1 0) holds) (image x s (if true 1 0))",
+    "(s) () (sumof x s (if (in x s) x 0)) (at (1 0) holds) (sumof x s (if true x 0))",
     // member of another set
     "(s t) () (all x s (in x t)) (at (1) holds) condition-1",
     // two above
