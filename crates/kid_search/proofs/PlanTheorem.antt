@@ -10,10 +10,8 @@ use Rattle.kid_term.specs.Eval.{Env, Calls}
 use Rattle.kid_term.specs.PlainSpec.{PlainSpec}
 use Rattle.kid_term.specs.PlainTerm.{PlainTerm}
 use Rattle.kid_search.specs.Space.{Descriptor, Space}
-use Rattle.kid_search.specs.SpaceLaws.{IsCut}
-use Rattle.kid_search.specs.Searching.{IsNecessary}
 use Rattle.kid_search.specs.SearchLaws.{is_feasible, IsPlanned}
-use Rattle.kid_search.specs.Pieces.{AreLawful, start_of, true_in}
+use Rattle.kid_search.specs.Pieces.{start_of, true_in}
 use Rattle.kid_search.specs.PlainPlan.{PlainCut, PlainPlan}
 use Rattle.kid_search.specs.PlanSearch.{plan_space, plan_pruning, cut_all, cut_once}
 use Rattle.kid_search.specs.Owed.{EachOf, env_at, FilterIsNecessary, CutLosesNothing}

@@ -1,11 +1,10 @@
 -- A search that is planned for a problem finds its answers.
-use Rattle.std.proofs.Common.{◌≡◌, List, sym, ap, ◌∙◌, subst}
+use Rattle.std.proofs.Common.{sym, subst}
 use Rattle.kid_value.specs.InSort.{in_sort}
-use Rattle.kid_value.specs.PlainValue.{PlainValue}
-use Rattle.kid_term.specs.Answer.{relates, AllAnswers, first_of}
-use Rattle.kid_search.specs.SearchLaws.{is_feasible, SearchesFindAll, SearchesFindFirst}
+use Rattle.kid_term.specs.Answer.{relates, AllAnswers}
+use Rattle.kid_search.specs.SearchLaws.{SearchesFindAll, SearchesFindFirst}
 use Rattle.kid_search.specs.Searching.{values_of, search}
-use Rattle.kid_search.proofs.Found.{values_from, values_of-search, values_of-upto_value}
+use Rattle.kid_search.proofs.Found.{values_of-search, values_of-upto_value}
 use Rattle.kid_search.proofs.SearchTheorem.{values_from-answer}
 
 pub searches_find_all : SearchesFindAll

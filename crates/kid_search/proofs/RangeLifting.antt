@@ -19,7 +19,7 @@ use Rattle.kid_search.proofs.BoolLemmas.{false_true}
 use Rattle.kid_search.proofs.SameSpace.{SameAtGood, lawful-same, starts-same}
 use Rattle.kid_search.proofs.RangeLaws.{range-lawful, range-starts}
 use Rattle.kid_search.proofs.SetMeaning.{in_sort-parts}
-use Rattle.kid_search.specs.Pieces.{space_of, is_goal, start_of, AreLawful}
+use Rattle.kid_search.specs.Pieces.{space_of, is_goal}
 use Rattle.kid_search.specs.RangePieces.{range_pieces, RangeIsLawful}
 use Rattle.kid_search.proofs.JustOne.{just-one}
 use Rattle.kid_search.proofs.ReadLemmas.{no_fit, no_end, found, passed, AreApart, apart, lacks_one}
@@ -86,11 +86,11 @@ module _ (lo hi : ℤ) (l h z : List ℕ) (a b : PlainTerm) (calls : Calls) (inp
   rank (x ∷ y ∷ []) g = λ i. int_gap (pos 0) (number_of (max (int (pos 0)) (sub (at_h x y i) (at_l x y i))))
   rank d g = absurd (no d refl g)
 
-  same : SameAtGood space made (in_sort (ints lo hi))
-  same = record { good = good; satisfies = satisfies; leaf = leaf; kids = kids; rank = rank }
+  pub range-same : SameAtGood space made (in_sort (ints lo hi))
+  range-same = record { good = good; satisfies = satisfies; leaf = leaf; kids = kids; rank = rank }
 
   pub pieces-lawful : IsLawful made (in_sort (ints lo hi))
-  pieces-lawful = lawful-same space made (in_sort (ints lo hi)) (range-lawful lo hi) same
+  pieces-lawful = lawful-same space made (in_sort (ints lo hi)) (range-lawful lo hi) range-same
 
 pub range_is_lawful : RangeIsLawful
 range_is_lawful lo hi l h z a b calls input names la lb sa sb =
@@ -100,6 +100,6 @@ range_is_lawful lo hi l h z a b calls input names la lb sa sb =
       just_one = just-one (space_of calls input z (range_pieces lo hi l h z a b)) (in_sort (ints lo hi)) lawful;
       starts = starts-same (range_space lo hi) (space_of calls input z (range_pieces lo hi l h z a b)) (in_sort (ints lo hi))
           (range_goal (eval calls input a) (eval calls input b)) (is_goal calls input z (range_pieces lo hi l h z a b)) (range_start (eval calls input a) (eval calls input b))
-          (same lo hi l h z a b calls input (apart l h z names)) (range-starts lo hi (eval calls input a) (eval calls input b) sa sb)
+          (range-same lo hi l h z a b calls input (apart l h z names)) (range-starts lo hi (eval calls input a) (eval calls input b) sa sb)
           (λ v i. truth_of (and (le (lacks_one calls z v input a la i) (found z v input i)) (le (found z v input i) (lacks_one calls z v input b lb i))));
     }

@@ -1,12 +1,16 @@
 -- Terms of one operator over a row of terms.
 use Rattle.std.specs.Prelude.{List}
 use Rattle.kid_term.specs.PlainTerm.{op, PlainTerm, app, term_row}
+use Rattle.kid_term.specs.declared.operator.Op.{Op}
 use Rattle.kid_term.specs.declared.operator.Op.TheVariants as ops
 use Rattle.kid_term.specs.declared.operator.LogicOp.{LogicOp}
 use Rattle.kid_term.specs.declared.operator.NumberOp.{NumberOp}
 use Rattle.kid_term.specs.declared.operator.SetOp.{SetOp}
 use Rattle.kid_term.specs.declared.operator.SeqOp.{SeqOp}
 use Rattle.kid_term.specs.declared.operator.MapOp.{MapOp}
+
+abbrev pub applied : Op → List PlainTerm → PlainTerm
+applied o ts = app (op o) (term_row ts)
 
 abbrev pub on_truths : LogicOp → List PlainTerm → PlainTerm
 on_truths o ts = app (op (ops.Logic o)) (term_row ts)

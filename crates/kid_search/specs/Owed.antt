@@ -1,5 +1,5 @@
 -- What each later step of a design owes, at an input, for the plan that it changes: a filter, a cut, a simplified test, a parameter.
-use Rattle.std.specs.Prelude.{◌≡◌, ℕ, Bool, true, List, [], ◌∷◌, ◌++◌, map, Option, Some, None}
+use Rattle.std.specs.Prelude.{◌≡◌, Bool, true, List, [], ◌∷◌, ◌++◌, map, Option, Some, None}
 use Rattle.kid_value.specs.InSort.{in_sort}
 use Rattle.kid_value.specs.PlainValue.{PlainValue}
 use Rattle.kid_value.specs.Rows.Parts.{members_of}
@@ -13,7 +13,7 @@ use Rattle.kid_search.specs.Space.{Descriptor}
 use Rattle.kid_search.specs.SpaceLaws.{IsCut}
 use Rattle.kid_search.specs.SearchLaws.{is_feasible}
 use Rattle.kid_search.specs.Pieces.{PlainBranch, at_descriptor, start_of, true_in, values_in}
-use Rattle.kid_search.specs.PlainPlan.{PlainCut, PlainParameter, PlainPlan}
+use Rattle.kid_search.specs.PlainPlan.{PlainCut, PlainPlan}
 use Rattle.kid_search.specs.CutBy.{cut_fact}
 use Rattle.kid_search.specs.PlanSearch.{plan_space, plan_pruning, plan_visits, cut_once}
 

@@ -1,5 +1,5 @@
 -- The pieces of a search theory as terms, and the space that their values make at an input.
-use Rattle.std.specs.Prelude.{◌≡◌, ℕ, pos, Bool, true, false, ◌&&◌, not, cond, List, [], ◌∷◌, ◌++◌, Option, Some, None, map}
+use Rattle.std.specs.Prelude.{ℕ, pos, Bool, true, ◌&&◌, not, cond, List, [], ◌∷◌, ◌++◌, Option, Some, None, map}
 use Rattle.std.specs.List.{flat_map}
 use Rattle.std.specs.Int.{int_gap}
 use Rattle.kid_value.specs.PlainSort.{PlainSort}

@@ -1,5 +1,5 @@
 -- Lawful plans, and the theorem that the search of one finds just the answers.
-use Rattle.std.specs.Prelude.{◌≡◌, Bool, true, List, []}
+use Rattle.std.specs.Prelude.{◌≡◌, true, []}
 use Rattle.kid_value.specs.PlainValue.{PlainValue}
 use Rattle.kid_term.specs.Answer.{AllAnswers, Answer}
 use Rattle.kid_term.specs.Eval.{Env, Calls, calls_of}

@@ -1,5 +1,5 @@
 -- The search of a plan at an input: what it does, what it finds, which descriptors it visits and how many.
-use Rattle.std.specs.Prelude.{ℕ, Bool, List, [], ◌∷◌, map, length}
+use Rattle.std.specs.Prelude.{ℕ, List, [], ◌∷◌, map, length}
 use Rattle.std.specs.List.{list_all}
 use Rattle.kid_value.specs.PlainSort.{PlainSort}
 use Rattle.kid_value.specs.PlainValue.{PlainValue}

@@ -7,7 +7,7 @@ use Rattle.kid_term.specs.Eval.{Env, Calls}
 use Rattle.kid_term.specs.PlainSpec.{PlainSpec}
 use Rattle.kid_search.specs.Space.{Descriptor, Space}
 use Rattle.kid_search.specs.SpaceLaws.{IsLawful}
-use Rattle.kid_search.specs.Searching.{Pruning, IsNecessary, Event, values_of, upto_value, search}
+use Rattle.kid_search.specs.Searching.{Pruning, IsNecessary, values_of, upto_value, search}
 
 -- whether the value is one that is sought
 abbrev pub is_feasible : Calls → PlainSpec → Env → PlainValue → Bool

@@ -1,4 +1,3 @@
-//! The kinds of cuts.
 /// How a cut changes a descriptor.
 #[derive(Clone, Copy, Debug, PartialEq, Eq)]
 pub enum CutKind {

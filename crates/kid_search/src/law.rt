@@ -1,7 +1,8 @@
 //! What holds of every search.
-ghost use Rattle.kid_search.specs.Examples.{SearchExamples};
 ghost use Rattle.kid_search.specs.PlanLaws.{MatchedIsLawful, PlansFindAll, PlansFindFirst, DesignsAnswer};
+ghost use Rattle.kid_search.specs.RangeCuts.{RangeCutsLoseNothing};
 ghost use Rattle.kid_search.specs.RangePieces.{RangeIsLawful};
+ghost use Rattle.kid_search.specs.SearchExamples.{SearchExamples};
 ghost use Rattle.kid_search.specs.SearchLaws.{SearchesFindAll, SearchesFindFirst};
 
 /// A search through a lawful space, with cuts and filters that lose no feasible value, finds all answers of the problem, each once
@@ -40,7 +41,12 @@ pub fn ranges_are_lawful()
     ensures { RangeIsLawful }
 {}
 
-/// Small searches, as they are computed from the definitions.
+/// A cut of an interval keeps descriptors good and the rank no higher, stands for no more, and loses no value of which its fact is true.
+pub fn range_cuts_lose_nothing()
+    ensures { RangeCutsLoseNothing }
+{}
+
+/// What small searches find, and how many visits they take.
 pub fn searches_by_example()
     ensures { SearchExamples }
 {}

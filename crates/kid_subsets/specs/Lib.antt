@@ -1,3 +1,5 @@
 pub mod Examples
 pub mod Subsets
+pub mod SubsetsAnswer
+pub mod SubsetsCuts
 pub mod SubsetsPieces

@@ -3,6 +3,7 @@ use Rattle.std.specs.Prelude.{◌≡◌, ℕ, true, List, [], ◌∷◌, None}
 use Rattle.kid_value.specs.InSort.{in_sort}
 use Rattle.kid_value.specs.Least.{least_value}
 use Rattle.kid_value.specs.PlainSort.{PlainSort, sets}
+use Rattle.kid_term.specs.Names.{Names}
 use Rattle.kid_term.specs.PlainTerm.{PlainTerm, var}
 use Rattle.kid_term.specs.Eval.{Env, Calls, eval}
 use Rattle.kid_term.specs.declared.operator.LogicOp.TheVariants.{Not, Eq}
@@ -10,27 +11,48 @@ use Rattle.kid_term.specs.declared.operator.SetOp.TheVariants.{Set, Subset, Unio
 use Rattle.kid_search.specs.Operators.{on_sets, on_truths}
 use Rattle.kid_search.specs.Pieces.{PlainPieces, AreLawful, lacks, are_apart}
 
--- members of the sort a, of which `least` has the least value
+abbrev pub no_open : List ℕ → PlainTerm
+no_open w = on_truths Eq (var w ∷ on_sets Set [] ∷ [])
+
+-- the least open member, where `least` is a term with the least value of the members' sort
+abbrev pub chosen : PlainTerm → List ℕ → PlainTerm
+chosen least w = on_sets Least (var w ∷ least ∷ [])
+
+abbrev pub fewer_open : PlainTerm → List ℕ → PlainTerm
+fewer_open least w = on_sets Without (chosen least w ∷ var w ∷ [])
+
+abbrev pub subsets_components : PlainSort → List ℕ → List ℕ → Names
+subsets_components a u w = (u, sets a) ∷ (w, sets a) ∷ []
+
+abbrev pub subsets_inv : List ℕ → List ℕ → PlainTerm
+subsets_inv u w = on_truths Eq (on_sets Inter (var u ∷ var w ∷ []) ∷ on_sets Set [] ∷ [])
+
+abbrev pub subsets_sat : List ℕ → List ℕ → List ℕ → List PlainTerm
+subsets_sat u w z = on_sets Subset (var u ∷ var z ∷ []) ∷ on_sets Subset (var z ∷ on_sets Union (var u ∷ var w ∷ []) ∷ []) ∷ []
+
+abbrev pub subsets_goal_term : List ℕ → PlainTerm → PlainTerm
+subsets_goal_term z s = on_sets Subset (var z ∷ s ∷ [])
+
+abbrev pub kid_without : PlainTerm → List ℕ → List ℕ → List PlainTerm
+kid_without least u w = var u ∷ fewer_open least w ∷ []
+
+abbrev pub kid_with : PlainTerm → List ℕ → List ℕ → List PlainTerm
+kid_with least u w = on_sets With (chosen least w ∷ var u ∷ []) ∷ fewer_open least w ∷ []
+
 module _ (a : PlainSort) (least : PlainTerm) (u w z : List ℕ) (s : PlainTerm) where
-  abbrev chosen : PlainTerm
-  chosen = on_sets Least (var w ∷ least ∷ [])
-
-  abbrev is_empty : PlainTerm
-  is_empty = on_truths Eq (var w ∷ on_sets Set [] ∷ [])
-
   -- subsets of s: a descriptor has the members that are taken, and those that are still open; the least open one is left out or taken
   abbrev pub subsets_pieces : PlainPieces
   subsets_pieces = record {
-    components = (u, sets a) ∷ (w, sets a) ∷ [];
+    components = subsets_components a u w;
     start = on_sets Set [] ∷ s ∷ [];
-    inv = on_truths Eq (on_sets Inter (var u ∷ var w ∷ []) ∷ on_sets Set [] ∷ []);
-    sat = on_sets Subset (var u ∷ var z ∷ []) ∷ on_sets Subset (var z ∷ on_sets Union (var u ∷ var w ∷ []) ∷ []) ∷ [];
-    goal = on_sets Subset (var z ∷ s ∷ []);
-    leaf_guard = is_empty;
+    inv = subsets_inv u w;
+    sat = subsets_sat u w z;
+    goal = subsets_goal_term z s;
+    leaf_guard = no_open w;
     leaf = var u;
-    kid_guard = on_truths Not (is_empty ∷ []);
+    kid_guard = on_truths Not (no_open w ∷ []);
     branch = None;
-    kids = (var u ∷ on_sets Without (chosen ∷ var w ∷ []) ∷ []) ∷ (on_sets With (chosen ∷ var u ∷ []) ∷ on_sets Without (chosen ∷ var w ∷ []) ∷ []) ∷ [];
+    kids = kid_without least u w ∷ kid_with least u w ∷ [];
     measure = on_sets Card (var w ∷ []);
   }
 
